@@ -1,0 +1,72 @@
+-- What a caller of `push_bytes` goes by: it takes a byte at least where there is one, no more than there are, and all where no event came. Assumes nothing.
+use Prim.Native.Nat.{ℕ, zero, suc, _+_, _-_, _≤_, _<_}
+use native.Mathlib.Omega.{arith}
+use native.Mathlib.Nat.{add-comm}
+use native.Mathlib.Numerals.{add-one}
+use mathlib.Core.Path.{_≡_, refl, ap, sym, _∙_}
+use mathlib.Core.Bool.{Bool, true, false}
+use mathlib.Core.List.{List, [], _∷_}
+use lib.ListN.{length, take, drop, length-drop}
+use lib.Seq.{length-take-le}
+use Rattle.framing.specs.declared.Fed.{Fed}
+use Rattle.field.specs.Pick.{pick}
+use Rattle.framing.specs.Decode.{Outcome, State, Step, state, step, after}
+use Rattle.framing.specs.Feed.{Feed, fed, toldFed, shift, isQuiet}
+
+-- what the first byte gave, and what comes of the others
+abbrev pub joined : Bool → Feed → Step → Feed
+joined t f s = pick t (shift 1 f) (record { next = s .next; used = 1; outcome = s .outcome })
+
+bound-step : (t : Bool) (f : Feed) (s : Step) (n : ℕ) → f .used ≤ n → joined t f s .used ≤ suc n
+bound-step true f s n h = omega arith
+bound-step false f s n h = omega arith
+
+some-step : (t : Bool) (f : Feed) (s : Step) → 1 ≤ joined t f s .used
+some-step true f s = omega arith
+some-step false f s = omega arith
+
+all-step : (t : Bool) (f : Feed) (s : Step) (n : ℕ) → isQuiet (s .outcome) ≡ t → (isQuiet (f .outcome) ≡ true → f .used ≡ n)
+    → isQuiet (joined t f s .outcome) ≡ true → joined t f s .used ≡ suc n
+all-step true f s n e h q = omega (arith, h q)
+all-step false f s n e h q = let z : _≡_ {A = Bool} true false = sym q ∙ e in let y : _≡_ {A = ℕ} 0 1 = cc in absurd (omega arith)
+
+after-step : (t : Bool) (f : Feed) (s : State) (b : ℕ) (bs : List ℕ) → after (step s b .next) (take (f .used) bs) ≡ f .next
+    → after s (take (joined t f (step s b) .used) (b ∷ bs)) ≡ joined t f (step s b) .next
+unfolding after
+after-step true f s b bs h = rw (add-comm 1 (f .used), add-one) h
+after-step false f s b bs h = refl
+
+-- no more than there are
+pub fed-bound : (s : State) (bs : List ℕ) → fed s bs .used ≤ length bs
+unfolding fed
+fed-bound s [] = omega arith
+fed-bound s (b ∷ bs) = bound-step (isQuiet (step s b .outcome)) (fed (step s b .next) bs) (step s b) (length bs) (fed-bound (step s b .next) bs)
+
+-- one at least, where there is one
+pub fed-some : (s : State) (bs : List ℕ) → 0 < length bs → 1 ≤ fed s bs .used
+unfolding fed
+fed-some s [] h = absurd (omega arith)
+fed-some s (b ∷ bs) h = some-step (isQuiet (step s b .outcome)) (fed (step s b .next) bs) (step s b)
+
+-- all, where no event came
+pub fed-all : (s : State) (bs : List ℕ) → isQuiet (fed s bs .outcome) ≡ true → fed s bs .used ≡ length bs
+unfolding fed
+fed-all s [] h = refl
+fed-all s (b ∷ bs) h = all-step (isQuiet (step s b .outcome)) (fed (step s b .next) bs) (step s b) (length bs) refl (fed-all (step s b .next) bs) h
+
+-- the state is that after the bytes used
+pub fed-after : (s : State) (bs : List ℕ) → after s (take (fed s bs .used) bs) ≡ fed s bs .next
+unfolding fed after
+fed-after s [] = refl
+fed-after s (b ∷ bs) = after-step (isQuiet (step s b .outcome)) (fed (step s b .next) bs) s b bs (fed-after (step s b .next) bs)
+
+-- what a loop over the rest of the input goes by: it moves, and stays inside
+pub used-rest : (r : Fed) (buf : List ℕ) (s : State) (bytes : List ℕ) (at : ℕ) → toldFed r buf ≡ fed s (take (length bytes - at) (drop at bytes))
+    → at < length bytes → (1 ≤ r .used) × (at + r .used ≤ length bytes)
+used-rest r buf s bytes at e h =
+    let rest = take (length bytes - at) (drop at bytes) in
+    let k : length bytes - at ≤ length (drop at bytes) = rw length-drop (omega arith) in
+    let n : length rest ≡ length bytes - at = length-take-le (length bytes - at) (drop at bytes) k in
+    let u : r .used ≡ fed s rest .used = ap (λ (f : Feed). f .used) e in
+    let p : 0 < length rest = omega (arith, n) in
+    (omega (arith, u, fed-some s rest p), omega (arith, u, n, fed-bound s rest))

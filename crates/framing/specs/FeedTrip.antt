@@ -1,0 +1,58 @@
+-- A framed message that is fed by `push_bytes`, with any bytes after it: all of the frame is used, nothing more, and the message is the event. Assumes nothing.
+use Prim.Native.Nat.{ℕ, zero, suc, _+_, _-_, _≤_, _<_}
+use native.Mathlib.Omega.{arith}
+use mathlib.Core.Path.{_≡_, refl, ap, sym, _∙_}
+use mathlib.Core.Bool.{Bool, true, false}
+use mathlib.Core.List.{List, [], _∷_, _++_}
+use lib.ListN.{length, replicate}
+use lib.Seq.{sets}
+use Rattle.framing.specs.declared.Phase.the-variants.{Idle}
+use Rattle.field.specs.Pick.{pick}
+use Rattle.framing.specs.Frame.{frame, framed, body}
+use Rattle.framing.specs.Decode.{Outcome, quiet, message, State, Step, state, step, outcomes, after}
+use Rattle.framing.specs.Feed.{Feed, fed, shift, isQuiet}
+use Rattle.framing.specs.RoundTrip.{Ready, Delivered, delivered}
+
+abbrev ended : State → ℕ → Outcome → Feed
+ended s n o = record { next = s; used = n; outcome = o }
+
+abbrev headOf : List Outcome → Outcome
+headOf [] = quiet
+headOf (x ∷ xs) = x
+
+abbrev tailOf : List Outcome → List Outcome
+tailOf [] = []
+tailOf (x ∷ xs) = xs
+
+-- quiet bytes and then one that gives an event: fed up to it
+pub fed-last : (s : State) (bs rest : List ℕ) (o : Outcome) (n : ℕ) → length bs ≡ suc n → outcomes s bs ≡ replicate n quiet ++ (o ∷ []) → isQuiet o ≡ false
+    → fed s (bs ++ rest) ≡ ended (after s bs) (length bs) o
+unfolding fed outcomes after
+fed-last s [] rest o n l e q = absurd (omega arith)
+fed-last s (b ∷ []) rest o zero l e q =
+    let h : step s b .outcome ≡ o = ap headOf e in
+    ap (λ (x : Outcome). pick (isQuiet x) (shift 1 (fed (step s b .next) rest)) (ended (step s b .next) 1 x)) h
+    ∙ ap (λ (t : Bool). pick t (shift 1 (fed (step s b .next) rest)) (ended (step s b .next) 1 o)) q
+fed-last s (b ∷ []) rest o (suc n) l e q = absurd (omega arith)
+fed-last s (b ∷ c ∷ bs) rest o zero l e q = absurd (omega arith)
+fed-last s (b ∷ c ∷ bs) rest o (suc n) l e q =
+    let h : step s b .outcome ≡ quiet = ap headOf e in
+    let t : outcomes (step s b .next) (c ∷ bs) ≡ replicate n quiet ++ (o ∷ []) = ap tailOf e in
+    let m : length (c ∷ bs) ≡ suc n = omega arith in
+    let i = fed-last (step s b .next) (c ∷ bs) rest o n m t q in
+    let k : 1 + length (c ∷ bs) ≡ length (b ∷ c ∷ bs) = omega arith in
+    ap (λ (x : Outcome). pick (isQuiet x) (shift 1 (fed (step s b .next) (c ∷ bs ++ rest))) (ended (step s b .next) 1 x)) h
+    ∙ ap (λ (f : Feed). shift 1 f) i
+    ∙ ap (λ (k : ℕ). ended (after s (b ∷ c ∷ bs)) k o) k
+
+frame-some : (cmd : ℕ) (payload : List ℕ) → length (frame cmd payload) ≡ suc (length (frame cmd payload) - 1)
+unfolding frame framed
+frame-some cmd payload = omega arith
+
+-- demand 2, for the slice
+pub fed-delivered : (s : State) (cmd : ℕ) (payload rest : List ℕ) → Ready s → length payload ≤ 255
+    → fed s (frame cmd payload ++ rest) ≡ ended (state Idle 0 (sets (s .buffer) 0 (body cmd payload))) (length (frame cmd payload)) (message cmd (length payload))
+fed-delivered s cmd payload rest r h =
+    let d = delivered s cmd payload r h in
+    fed-last s (frame cmd payload) rest (message cmd (length payload)) (length (frame cmd payload) - 1) (frame-some cmd payload) (d .gives) refl
+    ∙ ap (λ (t : State). ended t (length (frame cmd payload)) (message cmd (length payload))) (d .ends)

@@ -1,0 +1,125 @@
+-- Laws of the wire format. Assumes nothing.
+use Prim.Native.Nat.{ℕ, zero, suc, _+_, _-_, _%_, _*_, _≤_, _<_}
+use native.Mathlib.Nat.{add-zero, zero-add, add-assoc, add-suc, suc-add, add-mod}
+use native.Mathlib.Numerals.{add-one}
+use native.Mathlib.Omega.{arith}
+use mathlib.Core.Path.{_≡_, refl, ap, sym, _∙_}
+use mathlib.Core.Bool.{Bool, true, false}
+use mathlib.Core.List.{List, [], _∷_, _++_, append-assoc, append-nil}
+use borrow.Author.Tests.{eq-eqb, ne-eqb}
+use lib.ListN.{length, take, drop, getD, set, length-append, take-append-drop}
+use lib.Seq.{sets, take-suc, take-all}
+use lib.Dec.{eqb}
+use Rattle.field.specs.Pick.{pick}
+use Rattle.field.specs.WrittenLaws.{sets-then}
+use Rattle.framing.specs.Frame.{stuffed, stuff, sum, covered, checksum, body, framed, frame, wire}
+
+pub stuffed-dle : (b : ℕ) → b ≡ 0x10 → stuffed b ≡ b ∷ b ∷ []
+unfolding stuffed
+stuffed-dle b e = simp (eq-eqb b 0x10 e)
+
+pub stuffed-other : (b : ℕ) → (b ≡ 0x10 → ⊥) → stuffed b ≡ b ∷ []
+unfolding stuffed
+stuffed-other b e = simp (ne-eqb b 0x10 e)
+
+-- a byte takes one or two bytes on the wire
+pub stuffed-bounds : (b : ℕ) → (1 ≤ length (stuffed b)) × (length (stuffed b) ≤ 2)
+unfolding stuffed
+stuffed-bounds b = go (eqb b 0x10)
+  where
+    go : (t : Bool) → (1 ≤ length (pick t (b ∷ b ∷ []) (b ∷ []))) × (length (pick t (b ∷ b ∷ []) (b ∷ [])) ≤ 2)
+    go true = omega arith
+    go false = omega arith
+
+pub stuff-append : (xs ys : List ℕ) → stuff (xs ++ ys) ≡ stuff xs ++ stuff ys
+unfolding stuff
+stuff-append [] ys = refl
+stuff-append (x ∷ xs) ys = ap (λ (l : List ℕ). stuffed x ++ l) (stuff-append xs ys) ∙ sym (append-assoc (stuffed x) (stuff xs) (stuff ys))
+
+pub stuff-one : (b : ℕ) → stuff (b ∷ []) ≡ stuffed b
+unfolding stuff
+stuff-one b = append-nil (stuffed b)
+
+-- the wire bytes of one byte more
+pub stuff-take : (s : List ℕ) (i : ℕ) → i < length s → stuff (take (i + 1) s) ≡ stuff (take i s) ++ stuffed (getD s i 0)
+stuff-take s i h = rw (add-one, take-suc s i 0, stuff-append, stuff-one)
+
+pub stuff-length : (s : List ℕ) → length (stuff s) ≤ 2 * length s
+unfolding stuff
+stuff-length [] = omega arith
+stuff-length (x ∷ xs) = simp length-append (omega (arith, stuffed-bounds x, stuff-length xs))
+
+pub sum-append : (xs ys : List ℕ) → sum (xs ++ ys) ≡ sum xs + sum ys
+unfolding sum
+sum-append [] ys = sym (zero-add (sum ys))
+sum-append (x ∷ xs) ys = omega (arith, sum-append xs ys)
+
+pub sum-one : (b : ℕ) → sum (b ∷ []) ≡ b
+unfolding sum
+sum-one b = add-zero b
+
+pub sum-take : (s : List ℕ) (i : ℕ) → i < length s → sum (take (i + 1) s) ≡ sum (take i s) + getD s i 0
+sum-take s i h = rw (add-one, take-suc s i 0, sum-append, sum-one)
+
+-- the frame of a message, by its parts
+pub frame-wire : (cmd : ℕ) (payload : List ℕ) → frame cmd payload ≡ wire cmd (length payload) payload (checksum (covered cmd payload))
+unfolding frame framed body wire covered stuff
+frame-wire cmd payload = simp (stuff-append, append-assoc, append-nil)
+
+-- the bytes of a body add up to 0 modulo 256
+pub body-sum : (cmd : ℕ) (payload : List ℕ) → sum (body cmd payload) % 256 ≡ 0
+unfolding body checksum
+body-sum cmd payload = simp (sum-append, sum-one) (omega arith)
+
+-- the wire bytes of a first part are no more than those of the whole
+pub stuff-part : (s : List ℕ) (i : ℕ) → length (stuff (take i s)) ≤ length (stuff s)
+stuff-part s i =
+    let e : length (stuff (take i s)) + length (stuff (drop i s)) ≡ length (stuff s) = rw (← length-append, ← stuff-append, take-append-drop) in
+    omega arith
+
+pub stuff-room : (s : List ℕ) (i : ℕ) → i < length s → length (stuff (take i s)) + length (stuffed (getD s i 0)) ≤ length (stuff s)
+stuff-room s i h = omega (arith, rw (stuff-take, length-append) at (stuff-part s (i + 1)))
+
+-- the length of a frame by its parts
+pub wire-length : (cmd len : ℕ) (payload : List ℕ) (check : ℕ)
+    → length (wire cmd len payload check) ≡ 4 + length (stuffed cmd) + length (stuffed len) + length (stuff payload) + length (stuffed check)
+unfolding wire
+wire-length cmd len payload check = simp length-append (omega arith)
+
+-- the parts of a frame, stored one after the other from the start
+pub wire-sets : (cmd len : ℕ) (payload : List ℕ) (check : ℕ) (out : List ℕ) {o₁ o₂ o₃ o₄ : List ℕ} {n₁ n₂ n₃ n₄ : ℕ}
+    → o₁ ≡ sets (set (set out 0 0x10) 1 0x02) 2 (stuffed cmd) → n₁ ≡ 2 + length (stuffed cmd)
+    → o₂ ≡ sets o₁ n₁ (stuffed len) → n₂ ≡ n₁ + length (stuffed len)
+    → o₃ ≡ sets o₂ n₂ (stuff payload) → n₃ ≡ n₂ + length (stuff payload)
+    → o₄ ≡ sets o₃ n₃ (stuffed check) → n₄ ≡ n₃ + length (stuffed check)
+    → set (set o₄ n₄ 0x10) (n₄ + 1) 0x03 ≡ sets out 0 (wire cmd len payload check)
+unfolding wire
+wire-sets cmd len payload check out {o₁} {o₂} {o₃} {o₄} {n₁} {n₂} {n₃} {n₄} p₁ q₁ p₂ q₂ p₃ q₃ p₄ q₄ =
+    sym
+    (sets-then (stuffed cmd) (stuffed len ++ (stuff payload ++ (stuffed check ++ (0x10 ∷ 0x03 ∷ [])))) (set (set out 0 0x10) 1 0x02) o₁ 2 n₁ p₁ q₁
+    ∙ sets-then (stuffed len) (stuff payload ++ (stuffed check ++ (0x10 ∷ 0x03 ∷ []))) o₁ o₂ n₁ n₂ p₂ q₂
+    ∙ sets-then (stuff payload) (stuffed check ++ (0x10 ∷ 0x03 ∷ [])) o₂ o₃ n₂ n₃ p₃ q₃
+    ∙ sets-then (stuffed check) (0x10 ∷ 0x03 ∷ []) o₃ o₄ n₃ n₄ p₄ q₄
+    ∙ ap (λ (k : ℕ). set (set o₄ n₄ 0x10) k 0x03) (sym (add-one n₄)))
+
+-- a wrapping difference from 0
+wrapped-negative : (s k : ℕ) → s < 256 → k < 256 → (k + s) % 256 ≡ 0 → k ≡ (256 - s) % 256
+wrapped-negative s k hs hk e = omega arith
+
+below-256 : (n : ℕ) → n % 256 < 256
+below-256 n = omega arith
+
+-- the checksum byte, as wrapping sums and a wrapping difference give it
+pub checksum-wrapped : (cmd : ℕ) (payload : List ℕ) {head rest total check : ℕ} → head ≡ (cmd + length payload) % 256
+    → rest ≡ sum payload % 256 → total ≡ (head + rest) % 256 → (check + total) % 256 ≡ 0 → check < 256
+    → check ≡ checksum (covered cmd payload)
+unfolding checksum covered sum
+checksum-wrapped cmd payload {head} {rest} {total} {check} h r t k f =
+    let e : total ≡ (cmd + (length payload + sum payload)) % 256 =
+    t ∙ rw (h, r, ← add-mod, add-assoc) in
+    wrapped-negative ((cmd + (length payload + sum payload)) % 256) check (below-256 _) f (rw e at k)
+
+-- no frame is longer than this
+pub wire-most : (cmd len : ℕ) (payload : List ℕ) (check : ℕ) → length (wire cmd len payload check) ≤ 2 * length payload + 10
+wire-most cmd len payload check =
+    omega (arith, wire-length cmd len payload check, stuffed-bounds cmd, stuffed-bounds len, stuffed-bounds check, stuff-length payload)
