@@ -8,7 +8,8 @@ use lib.ListN.{length, drop, getD, drop-of-length-le}
 use lib.Seq.{drop-cons}
 use Rattle.field.specs.Pick.{pick}
 use mathlib.Core.List.{List, [], _∷_}
-use Rattle.framing.specs.Decode.{Outcome, quiet, message, error, refused, State, Step, state, step, outcomeOf}
+use Rattle.framing.specs.Unstuff.{State, state}
+use Rattle.framing.specs.Decode.{Outcome, quiet, message, error, refused, Step, step, outcomeOf}
 use Rattle.framing.specs.declared.Fed.{Fed}
 
 -- the state after the bytes used, how many those are, and what the last gave

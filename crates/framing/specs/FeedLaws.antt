@@ -10,7 +10,9 @@ use lib.ListN.{length, take, drop, length-drop}
 use lib.Seq.{length-take-le}
 use Rattle.framing.specs.declared.Fed.{Fed}
 use Rattle.field.specs.Pick.{pick}
-use Rattle.framing.specs.Decode.{Outcome, State, Step, state, step, after}
+use Rattle.framing.specs.Unstuff.{State, state}
+use Rattle.framing.specs.Unstuff as unstuff
+use Rattle.framing.specs.Decode.{Outcome, Step, step, after}
 use Rattle.framing.specs.Feed.{Feed, fed, toldFed, shift, isQuiet}
 
 -- what the first byte gave, and what comes of the others
@@ -32,7 +34,7 @@ all-step false f s n e h q = let z : _≡_ {A = Bool} true false = sym q ∙ e i
 
 after-step : (t : Bool) (f : Feed) (s : State) (b : ℕ) (bs : List ℕ) → after (step s b .next) (take (f .used) bs) ≡ f .next
     → after s (take (joined t f (step s b) .used) (b ∷ bs)) ≡ joined t f (step s b) .next
-unfolding after
+unfolding unstuff.after
 after-step true f s b bs h = rw (add-comm 1 (f .used), add-one) h
 after-step false f s b bs h = refl
 
@@ -56,7 +58,7 @@ fed-all s (b ∷ bs) h = all-step (isQuiet (step s b .outcome)) (fed (step s b .
 
 -- the state is that after the bytes used
 pub fed-after : (s : State) (bs : List ℕ) → after s (take (fed s bs .used) bs) ≡ fed s bs .next
-unfolding fed after
+unfolding fed unstuff.after
 fed-after s [] = refl
 fed-after s (b ∷ bs) = after-step (isQuiet (step s b .outcome)) (fed (step s b .next) bs) s b bs (fed-after (step s b .next) bs)
 

@@ -9,9 +9,12 @@ use lib.Seq.{sets}
 use Rattle.framing.specs.declared.Phase.the-variants.{Idle}
 use Rattle.field.specs.Pick.{pick}
 use Rattle.framing.specs.Frame.{frame, framed, body}
-use Rattle.framing.specs.Decode.{Outcome, quiet, message, State, Step, state, step, outcomes, after}
+use Rattle.framing.specs.Unstuff.{State, state}
+use Rattle.framing.specs.Unstuff as unstuff
+use Rattle.framing.specs.Decode.{Outcome, quiet, message, Step, base, step, outcomes, after}
 use Rattle.framing.specs.Feed.{Feed, fed, shift, isQuiet}
-use Rattle.framing.specs.RoundTrip.{Ready, Delivered, delivered}
+use Rattle.framing.specs.Delivery.{Delivered, delivered}
+use Rattle.framing.specs.Stuffing.{Ready}
 
 abbrev ended : State → ℕ → Outcome → Feed
 ended s n o = record { next = s; used = n; outcome = o }
@@ -27,7 +30,7 @@ tailOf (x ∷ xs) = xs
 -- quiet bytes and then one that gives an event: fed up to it
 pub fed-last : (s : State) (bs rest : List ℕ) (o : Outcome) (n : ℕ) → length bs ≡ suc n → outcomes s bs ≡ replicate n quiet ++ (o ∷ []) → isQuiet o ≡ false
     → fed s (bs ++ rest) ≡ ended (after s bs) (length bs) o
-unfolding fed outcomes after
+unfolding fed unstuff.outcomes unstuff.after
 fed-last s [] rest o n l e q = absurd (omega arith)
 fed-last s (b ∷ []) rest o zero l e q =
     let h : step s b .outcome ≡ o = ap headOf e in
@@ -50,7 +53,7 @@ unfolding frame framed
 frame-some cmd payload = omega arith
 
 -- demand 2, for the slice
-pub fed-delivered : (s : State) (cmd : ℕ) (payload rest : List ℕ) → Ready s → length payload ≤ 255
+pub fed-delivered : (s : State) (cmd : ℕ) (payload rest : List ℕ) → Ready base s → length payload ≤ 255
     → fed s (frame cmd payload ++ rest) ≡ ended (state Idle 0 (sets (s .buffer) 0 (body cmd payload))) (length (frame cmd payload)) (message cmd (length payload))
 fed-delivered s cmd payload rest r h =
     let d = delivered s cmd payload r h in

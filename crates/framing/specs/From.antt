@@ -10,7 +10,8 @@ use Rattle.field.specs.Pick.{pick}
 use Rattle.framing.specs.Frame.{sum}
 use Rattle.framing.specs.declared.Phase.{Phase}
 use Rattle.framing.specs.declared.Phase.the-variants.{Idle, InFrame, EscapeOutside, EscapeInside}
-use Rattle.framing.specs.Decode.{Outcome, quiet, message, error, refused, State, Step, state, step, to, closing, byPhase, collected, outcomeOf}
+use Rattle.framing.specs.Unstuff.{State, state, to}
+use Rattle.framing.specs.Decode.{Outcome, quiet, message, error, refused, Step, step, closing, byPhase, collected, outcomeOf}
 use Rattle.framing.specs.declared.Event.{Event}
 use Rattle.framing.specs.declared.Fed.{Fed}
 use Rattle.framing.specs.DecodeLaws.{idle-dle, idle-other, frame-dle, frame-other, outside-dle, outside-stx, outside-etx, outside-other, inside-dle, inside-stx, inside-etx, inside-other, collected-more, collected-full, step-16, step-7, step-taken}

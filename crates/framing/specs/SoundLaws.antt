@@ -16,9 +16,13 @@ use Rattle.framing.specs.declared.Phase.the-variants.{Idle, InFrame, Esc
 use Rattle.field.specs.Pick.{pick}
 use Rattle.framing.specs.Frame.{stuffed, stuff, sum, covered, checksum, body, framed, frame}
 use Rattle.framing.specs.FrameLaws.{stuffed-dle, stuffed-other, stuff-append, stuff-one, sum-append, sum-one}
-use Rattle.framing.specs.Decode.{Outcome, quiet, message, error, State, Step, state, to, step, byPhase, collected, closing, payloadOf, outcomes, after}
+use Rattle.framing.specs.Unstuff.{State, state, to}
+use Rattle.framing.specs.Unstuff as unstuff
+use Rattle.framing.specs.Decode.{base, Outcome, quiet, message, error, Step, step, byPhase, collected, closing, payloadOf, outcomes, after}
 use Rattle.framing.specs.DecodeLaws.{step-taken, idle-dle, idle-other, frame-dle, frame-other, outside-dle, outside-stx, outside-etx, outside-other, inside-dle, inside-stx, inside-etx, inside-other, collected-more, collected-full}
-use Rattle.framing.specs.RoundTrip.{Ready, after-append, outcomes-append, delivered, Delivered}
+use Rattle.framing.specs.UnstuffLaws.{after-append, outcomes-append}
+use Rattle.framing.specs.Stuffing.{Ready}
+use Rattle.framing.specs.Delivery.{delivered, Delivered}
 use Rattle.framing.specs.Feed.{Feed, fed, isQuiet}
 use Rattle.framing.specs.FeedLaws.{joined, fed-after}
 use Rattle.framing.specs.Soundness.{new, Bytes, escaping, Start, Ends, Sound}
@@ -43,13 +47,13 @@ last-on s fed b k never l i st = go (ltb i (length fed)) refl
 record Escaped (s : State) (fed : List ℕ) : Type 0 where
   prior : List ℕ
   split : fed ≡ prior ++ (0x10 ∷ [])
-  ready : Ready (after s prior)
+  ready : Ready base (after s prior)
 
 -- a frame is open and holds this content
 record Open (s : State) (fed content : List ℕ) : Type 0 where
   before : List ℕ
   split : fed ≡ before ++ (0x10 ∷ 0x02 ∷ stuff content)
-  ready : Ready (after s before)
+  ready : Ready base (after s before)
   latest : Last s fed (length before + 1)
 
 record Inside (s : State) (fed content : List ℕ) : Type 0 where
@@ -68,7 +72,7 @@ record Closes (s : State) (fed buf : List ℕ) (cmd m : ℕ) : Type 0 where
   before : List ℕ
   n : ℕ
   split : fed ≡ before ++ framed (take n buf)
-  ready : Ready (after s before)
+  ready : Ready base (after s before)
   latest : Last s fed (length before + 1)
   fits : n ≤ 1024
   gives : closing (take n buf) ≡ message cmd m
@@ -108,7 +112,7 @@ module _ (s : State) (fed : List ℕ) (b n : ℕ) (buf : List ℕ) (small : n �
   goes-idle : (k : ℕ) (o : Outcome) → Mute o → k ≡ 0 → Goes s fed b (to Idle k buf o)
   goes-idle k o q e = record { small = omega arith; room = room; traced = e; told = λ cmd m p. absurd (q cmd m p) }
 
-  goes-outside : b ≡ 0x10 → n ≡ 0 → Ready (after s fed) → Goes s fed b (to EscapeOutside n buf quiet)
+  goes-outside : b ≡ 0x10 → n ≡ 0 → Ready base (after s fed) → Goes s fed b (to EscapeOutside n buf quiet)
   goes-outside e z r =
       record {
         small = small;
@@ -117,7 +121,7 @@ module _ (s : State) (fed : List ℕ) (b n : ℕ) (buf : List ℕ) (small : n �
         told = λ cmd m p. absurd (mute-quiet cmd m p);
       }
 
-  goes-inside : b ≡ 0x10 → Open s fed (take n buf) → Ready (after s fed) → Goes s fed b (to EscapeInside n buf quiet)
+  goes-inside : b ≡ 0x10 → Open s fed (take n buf) → Ready base (after s fed) → Goes s fed b (to EscapeInside n buf quiet)
   goes-inside e o r =
       record {
         small = small;
@@ -278,25 +282,25 @@ held-goes s fed t b h =
     (goes s fed b (t .count) (t .buffer) (h .small) (h .room) (t .phase) (h .reached) (h .traced))
 
 held-on : (s : State) (fed : List ℕ) (t : State) (b : ℕ) → Held s fed t → Held s (fed ++ (b ∷ [])) (step t b .next)
-unfolding after
+unfolding unstuff.after
 held-on s fed t b h =
     let g = held-goes s fed t b h in
     record {
-      reached = after-append s fed (b ∷ []) ∙ ap (λ (u : State). step u b .next) (h .reached);
+      reached = after-append base s fed (b ∷ []) ∙ ap (λ (u : State). step u b .next) (h .reached);
       small = g .small;
       room = g .room;
       traced = g .traced;
     }
 
 run : (s : State) (fed : List ℕ) (t : State) (bs : List ℕ) → Held s fed t → Held s (fed ++ bs) (after t bs)
-unfolding after
+unfolding unstuff.after
 run s fed t [] h = rw append-nil h
 run s fed t (b ∷ bs) h =
     subst (λ (l : List ℕ). Held s l (after (step t b .next) bs)) (append-assoc fed (b ∷ []) bs)
     (run s (fed ++ (b ∷ [])) (step t b .next) bs (held-on s fed t b h))
 
 from-new : (buf bs : List ℕ) → 1024 ≤ length buf → Held (new buf) bs (after (new buf) bs)
-unfolding after
+unfolding unstuff.after
 from-new buf bs h = run (new buf) [] (new buf) bs (record { reached = refl; small = omega arith; room = h; traced = refl })
 
 -- a closing that gives a message, and what it says of the content
@@ -392,7 +396,7 @@ bytes-framed before content h =
     (bytes-left (stuff content) (0x10 ∷ 0x03 ∷ []) (bytes-right (0x10 ∷ 0x02 ∷ []) (stuff content ++ (0x10 ∷ 0x03 ∷ [])) (bytes-right before (framed content) h)))
 
 -- DLE STX where no DLE stands open is taken as a frame start
-ready-escapes : (u : State) → Ready u → escaping (step u 0x10 .next .phase) ≡ true
+ready-escapes : (u : State) → Ready base u → escaping (step u 0x10 .next .phase) ≡ true
 ready-escapes u r =
     let e : step u 0x10 ≡ byPhase (u .phase) (u .count) (u .buffer) 0x10 = step-taken (u .phase) (u .count) (u .buffer) 0x10 (r .count-fits) (r .buffer-fits) in
     ap (λ (t : Step). escaping (t .next .phase)) e ∙ by-phase (u .phase) (r .no-escape)
@@ -405,20 +409,20 @@ ready-escapes u r =
         ap (λ (q : Phase). escaping (byPhase q (u .count) (u .buffer) 0x10 .next .phase)) e
         ∙ ap (λ (t : Step). escaping (t .next .phase)) (frame-dle (u .count) (u .buffer) 0x10 refl)
 
-ready-start : (s : State) (before rest : List ℕ) → Ready (after s before) → Start s (before ++ (0x10 ∷ 0x02 ∷ rest)) (length before + 1)
-unfolding after
+ready-start : (s : State) (before rest : List ℕ) → Ready base (after s before) → Start s (before ++ (0x10 ∷ 0x02 ∷ rest)) (length before + 1)
+unfolding unstuff.after
 ready-start s before rest r =
     let e : take (length before + 1) (before ++ (0x10 ∷ 0x02 ∷ rest)) ≡ before ++ (0x10 ∷ []) =
     ap (take (length before + 1)) (sym (append-assoc before (0x10 ∷ []) (0x02 ∷ rest)))
     ∙ take-at (before ++ (0x10 ∷ [])) (0x02 ∷ rest) (length before + 1) (simp length-append) in
     record {
       inside = simp length-append (omega arith);
-      escape = ap (λ (l : List ℕ). escaping (after s l .phase)) e ∙ ap (λ (u : State). escaping (u .phase)) (after-append s before (0x10 ∷ [])) ∙ ready-escapes (after s before) r;
+      escape = ap (λ (l : List ℕ). escaping (after s l .phase)) e ∙ ap (λ (u : State). escaping (u .phase)) (after-append base s before (0x10 ∷ [])) ∙ ready-escapes (after s before) r;
       stx = getD-append-add before (0x10 ∷ 0x02 ∷ rest) 1 0;
     }
 
 -- of a run from new, no DLE open is all that a frame start needs
-clear-ready : (buf bs : List ℕ) → 1024 ≤ length buf → escaping (after (new buf) bs .phase) ≡ false → Ready (after (new buf) bs)
+clear-ready : (buf bs : List ℕ) → 1024 ≤ length buf → escaping (after (new buf) bs .phase) ≡ false → Ready base (after (new buf) bs)
 clear-ready buf bs room e =
     let h = from-new buf bs room in
     record { no-escape = by-phase (after (new buf) bs .phase) e; count-fits = h .small; buffer-fits = h .room }
@@ -429,13 +433,13 @@ clear-ready buf bs room e =
     by-phase EscapeOutside q = let y : _≡_ {A = ℕ} 0 1 = cc in absurd (omega arith)
     by-phase EscapeInside q = let y : _≡_ {A = ℕ} 0 1 = cc in absurd (omega arith)
 
-ready-clear : (u : State) → Ready u → escaping (u .phase) ≡ false
+ready-clear : (u : State) → Ready base u → escaping (u .phase) ≡ false
 ready-clear u r = ⊎-elim (λ e. ap escaping e) (λ e. ap escaping e) (r .no-escape)
 
 -- a message at the last byte fed: the bytes end with its frame
 pub sound : (buf pre : List ℕ) (b cmd n : ℕ) → 1024 ≤ length buf → Bytes (pre ++ (b ∷ []))
     → step (after (new buf) pre) b .outcome ≡ message cmd n → Sound (new buf) (pre ++ (b ∷ [])) cmd n
-unfolding after frame framed
+unfolding unstuff.after frame framed
 sound buf pre b cmd n room y e =
     let g = held-goes (new buf) pre (after (new buf) pre) b (from-new buf pre room) in
     let c = g .told cmd n e in
@@ -452,14 +456,14 @@ sound buf pre b cmd n room y e =
             short = w .short;
             clear = ready-clear (after (new buf) (c .before)) (c .ready);
           };
-      held = ap (λ (s : State). take n (drop 2 (s .buffer))) (after-append (new buf) pre (b ∷ []));
+      held = ap (λ (s : State). take n (drop 2 (s .buffer))) (after-append base (new buf) pre (b ∷ []));
       start = subst (λ (l : List ℕ). Start (new buf) l (length (c .before) + 1)) (sym (c .split)) (ready-start (new buf) (c .before) _ (c .ready));
       latest = c .latest;
     }
 
 -- the outcome at a place is what the byte there gave
 outcome-at : (s : State) (fed : List ℕ) (i : ℕ) → i < length fed → getD (outcomes s fed) i quiet ≡ step (after s (take i fed)) (getD fed i 0) .outcome
-unfolding outcomes after
+unfolding unstuff.outcomes unstuff.after
 outcome-at s [] i h = absurd (omega arith)
 outcome-at s (b ∷ bs) zero h = refl
 outcome-at s (b ∷ bs) (suc i) h = outcome-at (step s b .next) bs i (omega arith)
@@ -479,8 +483,8 @@ last-snoc (p ∷ q ∷ os) o = last-snoc (q ∷ os) o
 
 -- the last outcome of a run
 last-outcome : (s : State) (pre : List ℕ) (b : ℕ) → lastOf (outcomes s (pre ++ (b ∷ []))) ≡ step (after s pre) b .outcome
-unfolding outcomes
-last-outcome s pre b = ap lastOf (outcomes-append s pre (b ∷ [])) ∙ last-snoc (outcomes s pre) (step (after s pre) b .outcome)
+unfolding unstuff.outcomes
+last-outcome s pre b = ap lastOf (outcomes-append base s pre (b ∷ [])) ∙ last-snoc (outcomes s pre) (step (after s pre) b .outcome)
 
 -- what `delivered` says of the end of a run
 module _ (buf fed : List ℕ) (cmd n : ℕ) (room : 1024 ≤ length buf) (w : Ends (new buf) fed cmd n) where
@@ -494,7 +498,7 @@ module _ (buf fed : List ℕ) (cmd n : ℕ) (room : 1024 ≤ length buf) (w : En
       let q = replicate (length (frame cmd (w .payload)) - 1) quiet in
       let m = message cmd (length (w .payload)) in
       ap (λ (l : List ℕ). lastOf (outcomes s l)) (w .ends)
-      ∙ ap lastOf (outcomes-append s (w .before) (frame cmd (w .payload)))
+      ∙ ap lastOf (outcomes-append base s (w .before) (frame cmd (w .payload)))
       ∙ ap (λ (l : List Outcome). lastOf (outcomes s (w .before) ++ l)) (at-frame .gives)
       ∙ ap lastOf (sym (append-assoc (outcomes s (w .before)) q (m ∷ [])))
       ∙ last-snoc (outcomes s (w .before) ++ q) m
@@ -503,7 +507,7 @@ module _ (buf fed : List ℕ) (cmd n : ℕ) (room : 1024 ≤ length buf) (w : En
   frame-held : payloadOf (message cmd n) (after (new buf) fed .buffer) ≡ w .payload
   frame-held =
       ap (λ (l : List ℕ). take n (drop 2 (after (new buf) l .buffer))) (w .ends)
-      ∙ ap (λ (u : State). take n (drop 2 (u .buffer))) (after-append (new buf) (w .before) (frame cmd (w .payload)))
+      ∙ ap (λ (u : State). take n (drop 2 (u .buffer))) (after-append base (new buf) (w .before) (frame cmd (w .payload)))
       ∙ ap (λ (k : ℕ). take k (drop 2 (after (after (new buf) (w .before)) (frame cmd (w .payload)) .buffer))) (sym (w .counted))
       ∙ at-frame .holds
 
@@ -540,7 +544,7 @@ record Stops (s : State) (bs : List ℕ) (f : Feed) : Type 0 where
 
 stops-step : (t : Bool) (f : Feed) (s : State) (b : ℕ) (bs : List ℕ) → (isQuiet (f .outcome) ≡ false → Stops (step s b .next) bs f)
     → isQuiet (joined t f (step s b) .outcome) ≡ false → Stops s (b ∷ bs) (joined t f (step s b))
-unfolding after
+unfolding unstuff.after
 stops-step true f s b bs h q =
     let r = h q in
     record {
@@ -568,25 +572,25 @@ fed-sound buf pre bytes cmd n room y e =
     let p : pre ++ bytes ≡ (pre ++ take (f .used) bytes) ++ drop (f .used) bytes = rw (append-assoc, take-append-drop) in
     let y′ : Bytes ((pre ++ r .prior) ++ (r .byte ∷ [])) = subst Bytes q (bytes-left (pre ++ take (f .used) bytes) (drop (f .used) bytes) (subst Bytes p y)) in
     let g : step (after (new buf) (pre ++ r .prior)) (r .byte) .outcome ≡ message cmd n =
-    ap (λ (u : State). step u (r .byte) .outcome) (after-append (new buf) pre (r .prior)) ∙ r .gives ∙ e in
+    ap (λ (u : State). step u (r .byte) .outcome) (after-append base (new buf) pre (r .prior)) ∙ r .gives ∙ e in
     subst (λ (l : List ℕ). Sound (new buf) l cmd n) (sym q) (sound buf (pre ++ r .prior) (r .byte) cmd n room y′ g)
 
 -- what is fed by one call after the other is one run, as long as the buffer is left alone between them
 pub fed-run : (s : State) (pre bytes : List ℕ) → fed (after s pre) bytes .next ≡ after s (pre ++ take (fed (after s pre) bytes .used) bytes)
 fed-run s pre bytes =
-    sym (after-append s pre (take (fed (after s pre) bytes .used) bytes) ∙ fed-after (after s pre) bytes)
+    sym (after-append base s pre (take (fed (after s pre) bytes .used) bytes) ∙ fed-after (after s pre) bytes)
 
 -- a start is what it says: the frame is open behind it, with nothing collected
 pub start-opens : (buf fed : List ℕ) (i : ℕ) → 1024 ≤ length buf → Start (new buf) fed i
     → after (new buf) (take (i + 1) fed) ≡ state InFrame 0 (after (new buf) (take i fed) .buffer)
-unfolding after
+unfolding unstuff.after
 start-opens buf fed i room w =
     let u = after (new buf) (take i fed) in
     let h = from-new buf (take i fed) room in
     let e : take (i + 1) fed ≡ take i fed ++ (0x02 ∷ []) =
     rw (add-one, take-suc fed i 0 (w .inside)) (ap (λ (x : ℕ). take i fed ++ (x ∷ [])) (w .stx)) in
     ap (after (new buf)) e
-    ∙ after-append (new buf) (take i fed) (0x02 ∷ [])
+    ∙ after-append base (new buf) (take i fed) (0x02 ∷ [])
     ∙ ap (λ (t : Step). t .next) (step-taken (u .phase) (u .count) (u .buffer) 0x02 (h .small) (h .room))
     ∙ by-phase (u .phase) (u .count) (u .buffer) (w .escape)
   where
