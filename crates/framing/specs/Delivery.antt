@@ -4,19 +4,15 @@ use Prim.Native.Nat.{ℕ, _+_, _-_, _≤_}
 use native.Mathlib.Omega.{arith}
 use mathlib.Core.Path.{_≡_, ap, sym, _∙_}
 use mathlib.Core.List.{List, [], _∷_, _++_, append-assoc}
-use lib.ListN.{length, take, drop, replicate, length-append}
+use lib.ListN.{length, take, drop, replicate}
 use lib.Seq.{sets, sets-eq, take-append-seam}
 use Rattle.framing.specs.declared.Phase.the-variants.{Idle}
 use Rattle.framing.specs.Frame.{covered, body, frame}
-use Rattle.framing.specs.FrameLaws.{body-sum}
+use Rattle.framing.specs.FrameLaws.{body-length, body-sum}
 use Rattle.framing.specs.Unstuff.{State, state}
 use Rattle.framing.specs.Stuffing.{Ready, framed-closes}
 use Rattle.framing.specs.Decode.{quiet, message, closing, base, payloadOf, outcomes, after}
 use Rattle.framing.specs.DecodeLaws.{closing-message}
-
-pub body-length : (cmd : ℕ) (payload : List ℕ) → length (body cmd payload) ≡ length payload + 3
-unfolding body covered
-body-length cmd payload = simp length-append (omega arith)
 
 -- closing a frame with the body of a message gives the message
 pub body-closing : (cmd : ℕ) (payload : List ℕ) → closing (body cmd payload) ≡ message cmd (length payload)

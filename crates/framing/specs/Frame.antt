@@ -14,6 +14,11 @@ unfoldable pub stuff : List ℕ → List ℕ
 stuff [] = []
 stuff (b ∷ bs) = stuffed b ++ stuff bs
 
+-- how many bytes are DLE, each of which is doubled on the wire
+unfoldable pub dles : List ℕ → ℕ
+dles [] = 0
+dles (b ∷ bs) = pick (eqb b 0x10) 1 0 + dles bs
+
 -- the sum of all bytes
 unfoldable pub sum : List ℕ → ℕ
 sum [] = 0

@@ -12,7 +12,7 @@ use lib.Seq.{sets, take-suc, take-all}
 use lib.Dec.{eqb}
 use Rattle.field.specs.Pick.{pick}
 use Rattle.field.specs.WrittenLaws.{sets-then}
-use Rattle.framing.specs.Frame.{stuffed, stuff, sum, covered, checksum, body, framed, frame, wire}
+use Rattle.framing.specs.Frame.{stuffed, stuff, dles, sum, covered, checksum, body, framed, frame, wire}
 
 pub stuffed-dle : (b : ℕ) → b ≡ 0x10 → stuffed b ≡ b ∷ b ∷ []
 unfolding stuffed
@@ -49,6 +49,17 @@ unfolding stuff
 stuff-length [] = omega arith
 stuff-length (x ∷ xs) = simp length-append (omega (arith, stuffed-bounds x, stuff-length xs))
 
+-- each DLE takes one byte more
+pub stuff-dles : (s : List ℕ) → length (stuff s) ≡ length s + dles s
+unfolding stuff dles stuffed
+stuff-dles [] = refl
+stuff-dles (x ∷ xs) = simp length-append (go (eqb x 0x10) (stuff-dles xs))
+  where
+    go : (t : Bool) → length (stuff xs) ≡ length xs + dles xs
+        → length (pick t (x ∷ x ∷ []) (x ∷ [])) + length (stuff xs) ≡ suc (length xs) + (pick t 1 0 + dles xs)
+    go true e = omega arith
+    go false e = omega arith
+
 pub sum-append : (xs ys : List ℕ) → sum (xs ++ ys) ≡ sum xs + sum ys
 unfolding sum
 sum-append [] ys = sym (zero-add (sum ys))
@@ -65,6 +76,15 @@ sum-take s i h = rw (add-one, take-suc s i 0, sum-append, sum-one)
 pub frame-wire : (cmd : ℕ) (payload : List ℕ) → frame cmd payload ≡ wire cmd (length payload) payload (checksum (covered cmd payload))
 unfolding frame framed body wire covered stuff
 frame-wire cmd payload = simp (stuff-append, append-assoc, append-nil)
+
+pub body-length : (cmd : ℕ) (payload : List ℕ) → length (body cmd payload) ≡ length payload + 3
+unfolding body covered
+body-length cmd payload = simp length-append (omega arith)
+
+-- a frame is four bytes, the body's bytes, and one more for each DLE of the body
+pub frame-length : (cmd : ℕ) (payload : List ℕ) → length (frame cmd payload) ≡ 4 + length (body cmd payload) + dles (body cmd payload)
+unfolding frame framed
+frame-length cmd payload = simp length-append (omega (arith, stuff-dles (body cmd payload)))
 
 -- the bytes of a body add up to 0 modulo 256
 pub body-sum : (cmd : ℕ) (payload : List ℕ) → sum (body cmd payload) % 256 ≡ 0
@@ -123,3 +143,8 @@ checksum-wrapped cmd payload {head} {rest} {total} {check} h r t k f =
 pub wire-most : (cmd len : ℕ) (payload : List ℕ) (check : ℕ) → length (wire cmd len payload check) ≤ 2 * length payload + 10
 wire-most cmd len payload check =
     omega (arith, wire-length cmd len payload check, stuffed-bounds cmd, stuffed-bounds len, stuffed-bounds check, stuff-length payload)
+
+-- no frame is shorter than this
+pub wire-least : (cmd len : ℕ) (payload : List ℕ) (check : ℕ) → length payload + 7 ≤ length (wire cmd len payload check)
+wire-least cmd len payload check =
+    omega (arith, wire-length cmd len payload check, stuffed-bounds cmd, stuffed-bounds len, stuffed-bounds check, stuff-dles payload)

@@ -1,22 +1,25 @@
--- A framed message that is fed by `push_bytes`, with any bytes after it: all of the frame is used, nothing more, and the message is the event. Assumes nothing.
+-- Encoding and decoding agree: a frame that is fed by `push_bytes`, with any bytes after it, is used whole and no further, and
+-- what `encode_ngt_message` writes is read back. Assumes nothing.
 use Prim.Native.Nat.{ℕ, zero, suc, _+_, _-_, _≤_, _<_}
 use native.Mathlib.Omega.{arith}
 use mathlib.Core.Path.{_≡_, refl, ap, sym, _∙_}
 use mathlib.Core.Bool.{Bool, true, false}
 use mathlib.Core.List.{List, [], _∷_, _++_}
-use lib.ListN.{length, replicate}
+use lib.ListN.{length, drop, replicate}
 use lib.Seq.{sets}
 use Rattle.framing.specs.declared.Phase.the-variants.{Idle}
 use Rattle.field.specs.Pick.{pick}
 use Rattle.framing.specs.Frame.{frame, framed, body}
 use Rattle.framing.specs.Unstuff.{State, state}
 use Rattle.framing.specs.Unstuff as unstuff
-use Rattle.framing.specs.Decode.{Outcome, quiet, message, Step, base, step, outcomes, after}
+use Rattle.framing.specs.Decode.{Outcome, quiet, message, payloadOf, Step, base, step, outcomes, after}
 use Rattle.framing.specs.Feed.{Feed, fed, shift, isQuiet}
 use Rattle.framing.specs.Delivery.{Delivered, delivered}
+use Rattle.framing.specs.Encode.{wrote, encoded}
+use Rattle.framing.specs.EncodeLaws.{Wrote, wrote-says}
 use Rattle.framing.specs.Stuffing.{Ready}
 
-abbrev ended : State → ℕ → Outcome → Feed
+abbrev pub ended : State → ℕ → Outcome → Feed
 ended s n o = record { next = s; used = n; outcome = o }
 
 abbrev headOf : List Outcome → Outcome
@@ -52,10 +55,33 @@ frame-some : (cmd : ℕ) (payload : List ℕ) → length (frame cmd payload) ≡
 unfolding frame framed
 frame-some cmd payload = omega arith
 
--- demand 2, for the slice
+-- delivery, for the slice
 pub fed-delivered : (s : State) (cmd : ℕ) (payload rest : List ℕ) → Ready base s → length payload ≤ 255
     → fed s (frame cmd payload ++ rest) ≡ ended (state Idle 0 (sets (s .buffer) 0 (body cmd payload))) (length (frame cmd payload)) (message cmd (length payload))
 fed-delivered s cmd payload rest r h =
     let d = delivered s cmd payload r h in
     fed-last s (frame cmd payload) rest (message cmd (length payload)) (length (frame cmd payload) - 1) (frame-some cmd payload) (d .gives) refl
     ∙ ap (λ (t : State). ended t (length (frame cmd payload)) (message cmd (length payload))) (d .ends)
+
+-- what the decoder reads of an output that the encoder wrote to: just the bytes written, as the message, with its payload
+pub record ReadBack (s : State) (cmd : ℕ) (payload o : List ℕ) (n : ℕ) : Type 0 where
+  pub used : fed s o .used ≡ n
+  pub event : fed s o .outcome ≡ message cmd (length payload)
+  pub idle : (fed s o .next .phase ≡ Idle) × (fed s o .next .count ≡ 0)
+  pub handed : payloadOf (message cmd (length payload)) (fed s o .next .buffer) ≡ payload
+
+pub read-back : (s : State) (cmd : ℕ) (payload out : List ℕ) (n d : ℕ) (o : List ℕ) → Ready base s → encoded cmd payload out ≡ wrote n d o
+    → ReadBack s cmd payload o n
+read-back s cmd payload out n d o r e =
+    let w = wrote-says cmd payload out n d o e in
+    let d = delivered s cmd payload r (w .short) in
+    let f : fed s o ≡ ended (after s (frame cmd payload)) (length (frame cmd payload)) (message cmd (length payload)) =
+    ap (fed s) (w .left)
+    ∙ fed-delivered s cmd payload (drop (length (frame cmd payload)) out) r (w .short)
+    ∙ ap (λ (t : State). ended t (length (frame cmd payload)) (message cmd (length payload))) (sym (d .ends)) in
+    record {
+      used = ap (λ (x : Feed). x .used) f ∙ sym (w .count);
+      event = ap (λ (x : Feed). x .outcome) f;
+      idle = (ap (λ (x : Feed). x .next .phase) f ∙ ap (λ (t : State). t .phase) (d .ends), ap (λ (x : Feed). x .next .count) f ∙ ap (λ (t : State). t .count) (d .ends));
+      handed = ap (λ (x : Feed). payloadOf (message cmd (length payload)) (x .next .buffer)) f ∙ d .holds;
+    }
