@@ -16,7 +16,7 @@ use Rattle.framing.specs.declared.Event.{Event}
 use Rattle.framing.specs.declared.Fed.{Fed}
 use Rattle.framing.specs.DecodeLaws.{idle-dle, idle-other, frame-dle, frame-other, outside-dle, outside-stx, outside-etx, outside-other, inside-dle, inside-stx, inside-etx, inside-other, collected-more, collected-full, step-16, step-7, step-taken}
 use Rattle.framing.specs.Feed.{Feed, toldFed, fed, shift, isQuiet, fed-start, fed-on, fed-stop, fed-end}
-use Rattle.framing.specs.declared.Run.{Run}
+use Rattle.framing.specs.declared.decode.Run.{Run}
 
 -- what feeding the input from the place i on gives, from this state
 unfoldable pub from : State → ℕ → List ℕ → Feed

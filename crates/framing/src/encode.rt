@@ -1,0 +1,134 @@
+// A message into a frame.
+use super::DLE;
+use super::STX;
+use super::ETX;
+use super::Encoded;
+use super::checksum_of;
+ghost use mathlib.Core.Path.{_≡_};
+ghost use Prim.Native.Nat.{_+_, _≤_};
+ghost use lib.Dec.{leb};
+ghost use lib.ListN.{length};
+ghost use lib.Seq.{sets};
+ghost use Rattle.framing.specs.Frame.{stuffed, stuff, covered, checksum, wire};
+ghost use Rattle.framing.specs.Encode.{toldEncoded, encoded};
+
+// How many bytes one byte takes on the wire.
+fn stuffed_width(b: u8) -> usize
+    ensures { λ r. ⌜ r ≡ length (stuffed b) ⌝ }
+{
+    if b == DLE { 2 } else { 1 }
+}
+
+// How many bytes more than one a byte takes on the wire.
+fn extra(b: u8) -> u8
+    ensures { λ r. ⌜ (r + 1 ≡ length (stuffed b)) × (r ≤ 1) ⌝ }
+{
+    if b == DLE { 1 } else { 0 }
+}
+
+// How many bytes the bytes of s take on the wire. A count in a u8 is the fast one.
+fn stuffed_len(s: &[u8]) -> usize
+    requires { ⌜ length (now s) ≤ 255 ⌝ }
+    ensures { λ r. ⌜ r ≡ length (stuff (now (s .entry))) ⌝ }
+{
+    let mut dles: u8 = 0;
+    let mut i = 0;
+    while i < s.len() {
+        dles += extra(s[i]);
+        i += 1;
+    }
+    s.len() + dles as usize
+}
+
+// Writes b at the place at, doubled where it is DLE, and returns the place after it.
+fn write_stuffed(out: &mut [u8], at: usize, b: u8) -> usize
+    requires { ⌜ at + length (stuffed b) ≤ length (now out) ⌝ }
+    ensures { λ r. ⌜ r ≡ at + length (stuffed b) ⌝ }
+    ensures { λ _. ⌜ now (out .exit) ≡ sets (now (out .entry)) at (stuffed b) ⌝ }
+{
+    out[at] = b;
+    if b == DLE {
+        out[at + 1] = b;
+        at + 2
+    } else {
+        at + 1
+    }
+}
+
+// Writes the bytes of s, stuffed, from the place at on, and returns the place after them.
+fn write_all_stuffed(out: &mut [u8], at: usize, s: &[u8]) -> usize
+    requires { ⌜ at + length (stuff (now s)) ≤ length (now out) ⌝ }
+    ensures { λ r. ⌜ r ≡ at + length (stuff (now (s .entry))) ⌝ }
+    ensures { λ _. ⌜ now (out .exit) ≡ sets (now (out .entry)) at (stuff (now (s .entry))) ⌝ }
+{
+    let mut next = at;
+    let mut i = 0;
+    while i < s.len() {
+        next = write_stuffed(out, next, s[i]);
+        i += 1;
+    }
+    next
+}
+
+// Writes a frame of these parts from the start of out, and returns its length.
+fn write_frame(out: &mut [u8], cmd: u8, len: u8, payload: &[u8], check: u8) -> usize
+    requires { ⌜ length (wire cmd len (now payload) check) ≤ length (now out) ⌝ }
+    ensures { λ r. ⌜ r ≡ length (wire cmd len (now (payload .entry)) check) ⌝ }
+    ensures { λ _. ⌜ now (out .exit) ≡ sets (now (out .entry)) 0 (wire cmd len (now (payload .entry)) check) ⌝ }
+{
+    out[0] = DLE;
+    out[1] = STX;
+    let mut at = write_stuffed(out, 2, cmd);
+    at = write_stuffed(out, at, len);
+    at = write_all_stuffed(out, at, payload);
+    at = write_stuffed(out, at, check);
+    out[at] = DLE;
+    out[at + 1] = ETX;
+    at + 2
+}
+
+// The byte that brings the sum of a body to 0 modulo 256.
+fn checksum_byte(cmd: u8, len: u8, payload: &[u8]) -> u8
+    requires { ⌜ len ≡ length (now payload) ⌝ }
+    ensures { λ r. ⌜ r ≡ checksum (covered cmd (now (payload .entry))) ⌝ }
+{
+    let head = std::num::wrapping_add_u8(cmd, len);
+    let total = std::num::wrapping_add_u8(head, checksum_of(payload));
+    std::num::wrapping_sub_u8(0, total)
+}
+
+// How many bytes a frame of these parts takes.
+fn wire_len(cmd: u8, len: u8, payload: &[u8], check: u8) -> usize
+    requires { ⌜ length (now payload) ≤ 255 ⌝ }
+    ensures { λ r. ⌜ r ≡ length (wire cmd len (now (payload .entry)) check) ⌝ }
+{
+    4 + stuffed_width(cmd) + stuffed_width(len) + stuffed_len(payload) + stuffed_width(check)
+}
+
+// Whether a frame of these parts fits so many bytes. No frame is longer than 2 * n + 10, so DLEs are counted only where room is short.
+fn has_room(room: usize, cmd: u8, len: u8, payload: &[u8], check: u8) -> bool
+    requires { ⌜ length (now payload) ≤ 255 ⌝ }
+    ensures { λ r. ⌜ r ≡ leb (length (wire cmd len (now (payload .entry)) check)) room ⌝ }
+{
+    if 2 * payload.len() + 10 <= room {
+        return true;
+    }
+    wire_len(cmd, len, payload, check) <= room
+}
+
+// Wraps a message in a frame. Refuses with 6 a payload over 255 bytes, then with 7 an output that is too short.
+pub fn encode_ngt_message(cmd: u8, payload: &[u8], out: &mut [u8]) -> Encoded
+    ensures { λ r. ⌜ toldEncoded r (now (out .exit)) ≡ encoded cmd (now (payload .entry)) (now (out .entry)) ⌝ }
+{
+    let n = payload.len();
+    if 255 < n {
+        return Encoded::Refused(6);
+    }
+    let len = n as u8;
+    let check = checksum_byte(cmd, len, payload);
+    if has_room(out.len(), cmd, len, payload, check) {
+        let count = write_frame(out, cmd, len, payload, check);
+        return Encoded::Written { count, doubled: count - n - 7 };
+    }
+    Encoded::Refused(7)
+}
