@@ -42,11 +42,6 @@ bytes-take n s h i q =
 
 -- A field and its parts
 
--- no bytes hold 0
-pub field-none : (s : List ℕ) (at : ℕ) → field s at 0 ≡ 0
-unfolding field
-field-none s at = refl
-
 -- the lowest byte, and the rest
 pub field-suc : (s : List ℕ) (at k : ℕ) → field s at (suc k) ≡ getD s at 0 + 256 * field s (at + 1) k
 unfolding field
