@@ -1,4 +1,6 @@
--- What every layer shares: a choice by a test, and what is written into a lent slice.
+-- What every layer shares: a choice by a test, what is written into a lent slice, and little-endian fields.
+pub mod Fields
+pub mod FieldLaws
 pub mod Pick
 pub mod Written
 pub mod WrittenLaws

@@ -1,0 +1,19 @@
+-- `field::le16` meets its contract. Assumes nothing.
+use mathlib.Core.Path.{refl}
+use borrow.Author.Needs.{needs}
+use Rattle.field.specs.Fields.{bytesOf}
+use Rattle.field.proofs.le16.Statement.{statement}
+use Rattle.field.proofs.le16.Tie as tie
+
+cast-t3 : tie.Need-cast-t3
+cast-t3 c = search needs
+
+cast-t6 : tie.Need-cast-t6
+cast-t6 c = search needs
+
+returns : tie.Need-returns
+unfolding bytesOf
+returns c = refl
+
+pub le16-spec : {M : Type 1} → statement M
+le16-spec = tie.close (tie.spec cast-t3 cast-t6 returns)
