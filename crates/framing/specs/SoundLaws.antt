@@ -14,6 +14,8 @@ use lib.Seq.{take-at, take-suc, take-suc-set, take-append-le, take-append-seam, 
 use Rattle.framing.specs.declared.Phase.{Phase}
 use Rattle.framing.specs.declared.Phase.the-variants.{Idle, InFrame, EscapeOutside, EscapeInside}
 use Rattle.field.specs.Pick.{pick}
+use Rattle.field.specs.Fields.{Bytes}
+use Rattle.field.specs.FieldLaws.{bytes-left, bytes-right, bytes-take}
 use Rattle.framing.specs.Frame.{stuffed, stuff, sum, covered, checksum, body, framed, frame}
 use Rattle.framing.specs.FrameLaws.{stuffed-dle, stuffed-other, stuff-append, stuff-one, sum-append, sum-one}
 use Rattle.framing.specs.Unstuff.{State, state, to}
@@ -25,7 +27,7 @@ use Rattle.framing.specs.Stuffing.{Ready}
 use Rattle.framing.specs.Delivery.{delivered, Delivered}
 use Rattle.framing.specs.Feed.{Feed, fed, isQuiet}
 use Rattle.framing.specs.FeedLaws.{joined, fed-after}
-use Rattle.framing.specs.Soundness.{new, Bytes, escaping, Start, Ends, Sound}
+use Rattle.framing.specs.Soundness.{new, escaping, Start, Ends, Sound}
 
 -- no start was taken behind this place
 abbrev Last : State → List ℕ → ℕ → Type 0
@@ -370,12 +372,6 @@ content-body (suc (suc (suc k))) (a ∷ d ∷ rest) cmd m h y g =
     }
 
 -- the bytes of the content are among those fed
-bytes-right : (xs ys : List ℕ) → Bytes (xs ++ ys) → Bytes ys
-bytes-right xs ys h i k = rw (getD-append-add xs ys i 0) at (h (length xs + i) (simp length-append (omega arith)))
-
-bytes-left : (xs ys : List ℕ) → Bytes (xs ++ ys) → Bytes xs
-bytes-left xs ys h i k = rw (List·getD-append xs ys 0 i k) at (h i (simp length-append (omega arith)))
-
 stuffed-first : (x : ℕ) (ys : List ℕ) → Bytes (stuffed x ++ ys) → x < 256
 stuffed-first x ys h = go (eqb x 0x10) refl
   where
@@ -468,9 +464,6 @@ outcome-at s [] i h = absurd (omega arith)
 outcome-at s (b ∷ bs) zero h = refl
 outcome-at s (b ∷ bs) (suc i) h = outcome-at (step s b .next) bs i (omega arith)
 
-bytes-take : (fed : List ℕ) (i : ℕ) → Bytes fed → Bytes (take i fed)
-bytes-take fed i h = bytes-left (take i fed) (drop i fed) (rw take-append-drop h)
-
 abbrev lastOf : List Outcome → Outcome
 lastOf [] = quiet
 lastOf (o ∷ []) = o
@@ -520,7 +513,7 @@ exact buf fed i cmd n room y h =
     let e : take (i + 1) fed ≡ take i fed ++ (b ∷ []) = rw (add-one, take-suc fed i 0 h) in
     let o = outcome-at (new buf) fed i h in (
       λ p.
-          rw e (sound buf (take i fed) b cmd n room (subst Bytes e (bytes-take fed (i + 1) y)) (sym o ∙ p)),
+          rw e (sound buf (take i fed) b cmd n room (subst Bytes e (bytes-take (i + 1) fed y)) (sym o ∙ p)),
       λ w.
           o ∙ sym (last-outcome (new buf) (take i fed) b) ∙ ap (λ (l : List ℕ). lastOf (outcomes (new buf) l)) (sym e)
           ∙ frame-told buf (take (i + 1) fed) cmd n room w,

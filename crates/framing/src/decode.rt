@@ -1,13 +1,13 @@
 // Bytes into events.
 use super::DLE;
-use super::STX;
+use super::Decoder;
 use super::ETX;
+use super::Event;
+use super::Fed;
 use super::MAX_COLLECT;
 use super::Phase;
-use super::Decoder;
-use super::Event;
 use super::Pushed;
-use super::Fed;
+use super::STX;
 use super::checksum_of;
 ghost use mathlib.Core.Path.{_≡_};
 ghost use Prim.Native.Nat.{_≤_};

@@ -1,8 +1,8 @@
 // A message into a frame.
 use super::DLE;
-use super::STX;
 use super::ETX;
 use super::Encoded;
+use super::STX;
 use super::checksum_of;
 ghost use mathlib.Core.Path.{_≡_};
 ghost use Prim.Native.Nat.{_+_, _≤_};
@@ -128,7 +128,10 @@ pub fn encode_ngt_message(cmd: u8, payload: &[u8], out: &mut [u8]) -> Encoded
     let check = checksum_byte(cmd, len, payload);
     if has_room(out.len(), cmd, len, payload, check) {
         let count = write_frame(out, cmd, len, payload, check);
-        return Encoded::Written { count, doubled: count - n - 7 };
+        return Encoded::Written {
+            count,
+            doubled: count - n - 7,
+        };
     }
     Encoded::Refused(7)
 }

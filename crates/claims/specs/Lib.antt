@@ -1,0 +1,3 @@
+-- The demands and the P rows, each as one statement.
+pub mod Framing
+pub mod Rows
