@@ -49,6 +49,19 @@ unfolding stuff
 stuff-length [] = omega arith
 stuff-length (x ∷ xs) = simp length-append (omega (arith, stuffed-bounds x, stuff-length xs))
 
+pub dles-append : (xs ys : List ℕ) → dles (xs ++ ys) ≡ dles xs + dles ys
+unfolding dles
+dles-append [] ys = sym (zero-add (dles ys))
+dles-append (x ∷ xs) ys = omega (arith, dles-append xs ys)
+
+pub dles-dle : (b : ℕ) → b ≡ 0x10 → dles (b ∷ []) ≡ 1
+unfolding dles
+dles-dle b e = rw (eq-eqb b 0x10 e)
+
+pub dles-other : (b : ℕ) → (b ≡ 0x10 → ⊥) → dles (b ∷ []) ≡ 0
+unfolding dles
+dles-other b e = rw (ne-eqb b 0x10 e)
+
 -- each DLE takes one byte more
 pub stuff-dles : (s : List ℕ) → length (stuff s) ≡ length s + dles s
 unfolding stuff dles stuffed
@@ -59,6 +72,13 @@ stuff-dles (x ∷ xs) = simp length-append (go (eqb x 0x10) (stuff-dles xs))
         → length (pick t (x ∷ x ∷ []) (x ∷ [])) + length (stuff xs) ≡ suc (length xs) + (pick t 1 0 + dles xs)
     go true e = omega arith
     go false e = omega arith
+
+pub dles-most : (s : List ℕ) → dles s ≤ length s
+dles-most s = omega (arith, stuff-dles s, stuff-length s)
+
+-- the count of one byte more
+pub dles-take : (s : List ℕ) (i : ℕ) → i < length s → dles (take (i + 1) s) ≡ dles (take i s) + dles (getD s i 0 ∷ [])
+dles-take s i h = rw (add-one, take-suc s i 0, dles-append)
 
 pub sum-append : (xs ys : List ℕ) → sum (xs ++ ys) ≡ sum xs + sum ys
 unfolding sum
@@ -138,6 +158,15 @@ checksum-wrapped cmd payload {head} {rest} {total} {check} h r t k f =
     let e : total ≡ (cmd + (length payload + sum payload)) % 256 =
     t ∙ rw (h, r, ← add-mod, add-assoc) in
     wrapped-negative ((cmd + (length payload + sum payload)) % 256) check (below-256 _) f (rw e at k)
+
+-- the same by the DLEs of the parts
+pub wire-dles : (cmd len : ℕ) (payload : List ℕ) (check : ℕ)
+    → length (wire cmd len payload check) ≡ 7 + length payload + dles payload + (dles (cmd ∷ []) + dles (len ∷ []) + dles (check ∷ []))
+wire-dles cmd len payload check =
+    omega (arith, wire-length cmd len payload check, one cmd, one len, one check, stuff-dles payload)
+  where
+    one : (b : ℕ) → length (stuffed b) ≡ 1 + dles (b ∷ [])
+    one b = ap length (sym (stuff-one b)) ∙ stuff-dles (b ∷ [])
 
 -- no frame is longer than this
 pub wire-most : (cmd len : ℕ) (payload : List ℕ) (check : ℕ) → length (wire cmd len payload check) ≤ 2 * length payload + 10

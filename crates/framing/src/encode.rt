@@ -6,38 +6,32 @@ use super::STX;
 use super::checksum_of;
 ghost use mathlib.Core.Path.{_≡_};
 ghost use Prim.Native.Nat.{_+_, _≤_};
+ghost use mathlib.Core.List.{_∷_, []};
 ghost use lib.Dec.{leb};
 ghost use lib.ListN.{length};
 ghost use lib.Seq.{sets};
-ghost use Rattle.framing.specs.Frame.{stuffed, stuff, covered, checksum, wire};
+ghost use Rattle.framing.specs.Frame.{stuffed, stuff, dles, covered, checksum, wire};
 ghost use Rattle.framing.specs.Encode.{toldEncoded, encoded};
 
-// How many bytes one byte takes on the wire.
-fn stuffed_width(b: u8) -> usize
-    ensures { λ r. ⌜ r ≡ length (stuffed b) ⌝ }
-{
-    if b == DLE { 2 } else { 1 }
-}
-
-// How many bytes more than one a byte takes on the wire.
+// 1 for a DLE, which takes a byte more on the wire, and 0 for any other byte.
 fn extra(b: u8) -> u8
-    ensures { λ r. ⌜ (r + 1 ≡ length (stuffed b)) × (r ≤ 1) ⌝ }
+    ensures { λ r. ⌜ (r ≡ dles (b ∷ [])) × (r ≤ 1) ⌝ }
 {
     if b == DLE { 1 } else { 0 }
 }
 
-// How many bytes the bytes of s take on the wire. A count in a u8 is the fast one.
-fn stuffed_len(s: &[u8]) -> usize
+// How many of the bytes are DLE. A count in a u8 is the fast one.
+fn count_dles(s: &[u8]) -> usize
     requires { ⌜ length (now s) ≤ 255 ⌝ }
-    ensures { λ r. ⌜ r ≡ length (stuff (now (s .entry))) ⌝ }
+    ensures { λ r. ⌜ (r ≡ dles (now (s .entry))) × (r ≤ 255) ⌝ }
 {
-    let mut dles: u8 = 0;
+    let mut found: u8 = 0;
     let mut i = 0;
     while i < s.len() {
-        dles += extra(s[i]);
+        found += extra(s[i]);
         i += 1;
     }
-    s.len() + dles as usize
+    found as usize
 }
 
 // Writes b at the place at, doubled where it is DLE, and returns the place after it.
@@ -102,7 +96,8 @@ fn wire_len(cmd: u8, len: u8, payload: &[u8], check: u8) -> usize
     requires { ⌜ length (now payload) ≤ 255 ⌝ }
     ensures { λ r. ⌜ r ≡ length (wire cmd len (now (payload .entry)) check) ⌝ }
 {
-    4 + stuffed_width(cmd) + stuffed_width(len) + stuffed_len(payload) + stuffed_width(check)
+    let ends = extra(cmd) + extra(len) + extra(check);
+    7 + payload.len() + count_dles(payload) + ends as usize
 }
 
 // Whether a frame of these parts fits so many bytes. No frame is longer than 2 * n + 10, so DLEs are counted only where room is short.

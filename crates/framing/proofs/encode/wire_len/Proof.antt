@@ -1,55 +1,57 @@
--- `framing::wire_len` meets its contract. Assumes nothing.
+-- `framing::encode::wire_len` meets its contract. Assumes nothing.
 use native.Mathlib.Omega.{arith}
 use borrow.Author.Needs.{needs}
-use Rattle.framing.specs.FrameLaws.{stuffed-bounds, stuff-length, wire-length}
+use Rattle.framing.specs.FrameLaws.{wire-dles}
 use Rattle.framing.proofs.encode.wire_len.Statement.{statement}
 use Rattle.framing.proofs.encode.wire_len.Tie as tie
 
-stuffed-width-requires : tie.Need-stuffed-width-requires
-stuffed-width-requires c κs = search needs
+extra-requires : tie.Need-extra-requires
+extra-requires c κs = search needs
+
+extra-requires-2 : tie.Need-extra-requires-2
+extra-requires-2 c κs = search needs
+
+add-ends : tie.Need-add-ends
+add-ends c = search needs
+
+extra-requires-3 : tie.Need-extra-requires-3
+extra-requires-3 c κs = search needs
+
+add-ends-2 : tie.Need-add-ends-2
+add-ends-2 c = search needs
 
 add-result : tie.Need-add-result
-add-result c = omega (arith, stuffed-bounds (c .before .before .args .cmd))
+add-result c = search needs
 
-stuffed-width-requires-2 : tie.Need-stuffed-width-requires-2
-stuffed-width-requires-2 c κs = search needs
+count-dles-requires : tie.Need-count-dles-requires
+count-dles-requires c κs = search needs
 
 add-result-2 : tie.Need-add-result-2
-add-result-2 c =
-    let a = c .before .before .before .args in
-    omega (arith, stuffed-bounds (a .cmd), stuffed-bounds (a .len))
+add-result-2 c = search needs
 
-stuffed-len-requires : tie.Need-stuffed-len-requires
-stuffed-len-requires c κs = search needs
+cast-result : tie.Need-cast-result
+cast-result c = search needs
 
 add-result-3 : tie.Need-add-result-3
-add-result-3 c =
-    let a = c .before .before .before .before .args in
-    omega (arith, stuffed-bounds (a .cmd), stuffed-bounds (a .len), stuff-length (a .payload .now))
-
-stuffed-width-requires-3 : tie.Need-stuffed-width-requires-3
-stuffed-width-requires-3 c κs = search needs
-
-add-result-4 : tie.Need-add-result-4
-add-result-4 c =
-    let a = c .before .before .before .before .before .args in
-    omega (arith, stuffed-bounds (a .cmd), stuffed-bounds (a .len), stuff-length (a .payload .now), stuffed-bounds (a .check))
+add-result-3 c = search needs
 
 returns : tie.Need-returns
 returns c =
     let a = c .before .before .before .before .before .args in
-    omega (arith, wire-length (a .cmd) (a .len) (a .payload .now) (a .check))
+    omega (arith, wire-dles (a .cmd) (a .len) (a .payload .now) (a .check))
 
 pub wire-len-spec : {M : Type 1} → statement M
 wire-len-spec =
     tie.close
     (tie.spec
-    stuffed-width-requires
+    extra-requires
+    extra-requires-2
+    add-ends
+    extra-requires-3
+    add-ends-2
     add-result
-    stuffed-width-requires-2
+    count-dles-requires
     add-result-2
-    stuffed-len-requires
+    cast-result
     add-result-3
-    stuffed-width-requires-3
-    add-result-4
     returns)
