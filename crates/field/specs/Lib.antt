@@ -2,5 +2,6 @@
 pub mod Fields
 pub mod FieldLaws
 pub mod Pick
+pub mod Tests
 pub mod Written
 pub mod WrittenLaws

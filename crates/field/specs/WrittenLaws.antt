@@ -1,5 +1,5 @@
 -- Laws of writing: runs of stores (`sets`), and a second writer that is lent the rest, `&mut out[n..]`. Assumes nothing.
-use Prim.Native.Nat.{ℕ, zero, suc, _+_, _-_, _≤_}
+use Prim.Native.Nat.{ℕ, suc, _+_, _-_, _≤_}
 use native.Mathlib.Nat.{add-zero, zero-add, add-suc, suc-add}
 use native.Mathlib.Omega.{arith}
 use mathlib.Core.Path.{_≡_, ap, ap₂, sym, _∙_}

@@ -1,9 +1,9 @@
 -- Encoding and decoding agree: a frame that is fed by `push_bytes`, with any bytes after it, is used whole and no further, and
 -- what `encode_ngt_message` writes is read back. Assumes nothing.
-use Prim.Native.Nat.{ℕ, zero, suc, _+_, _-_, _≤_, _<_}
+use Prim.Native.Nat.{ℕ, zero, suc, _+_, _-_, _≤_}
 use native.Mathlib.Omega.{arith}
 use mathlib.Core.Path.{_≡_, refl, ap, sym, _∙_}
-use mathlib.Core.Bool.{Bool, true, false}
+use mathlib.Core.Bool.{Bool, false}
 use mathlib.Core.List.{List, [], _∷_, _++_}
 use lib.ListN.{length, drop, replicate}
 use lib.Seq.{sets}
@@ -12,11 +12,11 @@ use Rattle.field.specs.Pick.{pick}
 use Rattle.framing.specs.Frame.{frame, framed, body}
 use Rattle.framing.specs.Unstuff.{State, state}
 use Rattle.framing.specs.Unstuff as unstuff
-use Rattle.framing.specs.Decode.{Outcome, quiet, message, payloadOf, Step, base, step, outcomes, after}
+use Rattle.framing.specs.Decode.{Outcome, quiet, message, payloadOf, base, step, outcomes, after}
 use Rattle.framing.specs.Feed.{Feed, fed, shift, isQuiet}
-use Rattle.framing.specs.Delivery.{Delivered, delivered}
+use Rattle.framing.specs.Delivery.{delivered}
 use Rattle.framing.specs.Encode.{wrote, encoded}
-use Rattle.framing.specs.EncodeLaws.{Wrote, wrote-says}
+use Rattle.framing.specs.EncodeLaws.{wrote-says}
 use Rattle.framing.specs.Stuffing.{Ready}
 
 abbrev pub ended : State → ℕ → Outcome → Feed

@@ -1,6 +1,6 @@
 -- Delivery (demand 2): the frame of a message that is fed to the decoder, idle or in a frame with no escape open, yields that
 -- message alone, at its last byte. Assumes nothing.
-use Prim.Native.Nat.{ℕ, _+_, _-_, _≤_}
+use Prim.Native.Nat.{ℕ, _-_, _≤_}
 use native.Mathlib.Omega.{arith}
 use mathlib.Core.Path.{_≡_, ap, sym, _∙_}
 use mathlib.Core.List.{List, [], _∷_, _++_, append-assoc}

@@ -1,19 +1,55 @@
--- What a caller of `push_bytes` goes by: it takes a byte at least where there is one, no more than there are, and all where no event came. Assumes nothing.
-use Prim.Native.Nat.{ℕ, zero, suc, _+_, _-_, _≤_, _<_}
+-- Laws of feeding bytes up to the first event: what a loop over the input goes by, and what a caller of `push_bytes` goes by (it
+-- takes one byte at least where there is one, no more than there are, and all where no event came). Assumes nothing.
+use Prim.Native.Nat.{ℕ, suc, _+_, _-_, _≤_, _<_}
 use native.Mathlib.Omega.{arith}
-use native.Mathlib.Nat.{add-comm}
+use native.Mathlib.Nat.{add-zero, zero-add, add-assoc, add-comm}
 use native.Mathlib.Numerals.{add-one}
 use mathlib.Core.Path.{_≡_, refl, ap, sym, _∙_}
 use mathlib.Core.Bool.{Bool, true, false}
 use mathlib.Core.List.{List, [], _∷_}
-use lib.ListN.{length, take, drop, length-drop}
-use lib.Seq.{length-take-le}
+use lib.ListN.{length, take, drop, getD, length-drop, drop-of-length-le}
+use lib.Seq.{drop-cons, length-take-le}
 use Rattle.framing.specs.declared.Fed.{Fed}
 use Rattle.field.specs.Pick.{pick}
-use Rattle.framing.specs.Unstuff.{State, state}
+use Rattle.framing.specs.Unstuff.{State}
 use Rattle.framing.specs.Unstuff as unstuff
-use Rattle.framing.specs.Decode.{Outcome, Step, step, after}
+use Rattle.framing.specs.Decode.{quiet, Step, step, after}
 use Rattle.framing.specs.Feed.{Feed, fed, toldFed, shift, isQuiet}
+
+-- a loop over the input, by the place in it
+
+shift-none : (f : Feed) → f ≡ shift 0 f
+shift-none f = ap (λ (n : ℕ). record { next = f .next; used = n; outcome = f .outcome }) (sym (zero-add (f .used)))
+
+shift-more : (i : ℕ) (f : Feed) → shift i (shift 1 f) ≡ shift (i + 1) f
+shift-more i f = ap (λ (n : ℕ). record { next = f .next; used = n; outcome = f .outcome }) (sym (add-assoc i 1 (f .used)))
+
+-- where the loop begins
+pub fed-start : (s : State) (bs : List ℕ) → fed s bs ≡ shift 0 (fed s (drop 0 bs))
+fed-start s bs = shift-none (fed s bs)
+
+-- one quiet byte more
+pub fed-on : (s : State) (bs : List ℕ) (i : ℕ) (f : Feed) (t : Step) → i < length bs → f ≡ shift i (fed s (drop i bs)) → t ≡ step s (getD bs i 0)
+    → isQuiet (t .outcome) ≡ true → f ≡ shift (i + 1) (fed (t .next) (drop (i + 1) bs))
+unfolding fed
+fed-on s bs i f t h e g q =
+    let q′ : isQuiet (step s (getD bs i 0) .outcome) ≡ true = rw g at q in
+    e ∙ rw (drop-cons bs i 0 h, q′, shift-more, g)
+    (ap (λ (n : ℕ). shift (i + 1) (fed (step s (getD bs i 0) .next) (drop n bs))) (sym (add-one i)))
+
+-- a byte that gives an event
+pub fed-stop : (s : State) (bs : List ℕ) (i : ℕ) (f : Feed) (t : Step) → i < length bs → f ≡ shift i (fed s (drop i bs)) → t ≡ step s (getD bs i 0)
+    → isQuiet (t .outcome) ≡ false → f ≡ record { next = t .next; used = i + 1; outcome = t .outcome }
+unfolding fed
+fed-stop s bs i f t h e g q =
+    let q′ : isQuiet (step s (getD bs i 0) .outcome) ≡ false = rw g at q in
+    e ∙ rw (drop-cons bs i 0 h, q′, g)
+
+-- where the bytes end
+pub fed-end : (s : State) (bs : List ℕ) (i : ℕ) (f : Feed) → length bs ≤ i → f ≡ shift i (fed s (drop i bs))
+    → f ≡ record { next = s; used = i; outcome = quiet }
+unfolding fed
+fed-end s bs i f h e = e ∙ rw (drop-of-length-le bs h, add-zero)
 
 -- what the first byte gave, and what comes of the others
 abbrev pub joined : Bool → Feed → Step → Feed

@@ -1,5 +1,5 @@
 -- The wire format: stuffing, checksum, body and frame (Actisense SDK, BDTP; document 01, module 1). Assumes nothing.
-use Prim.Native.Nat.{ℕ, zero, _+_, _-_, _%_}
+use Prim.Native.Nat.{ℕ, _+_, _-_, _%_}
 use mathlib.Core.List.{List, [], _∷_, _++_}
 use lib.ListN.{length}
 use lib.Dec.{eqb}

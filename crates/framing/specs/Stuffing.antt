@@ -1,6 +1,6 @@
 -- Stuffing, proved once for every body and every decoder: the stuffed bytes of a body are collected as the body, and a frame's
 -- last byte gives what closing with its content gives. Assumes nothing.
-use Prim.Native.Nat.{ℕ, zero, suc, _+_, _-_, _≤_, _<_}
+use Prim.Native.Nat.{ℕ, suc, _+_, _-_, _≤_, _<_}
 use native.Mathlib.Nat.{add-zero, zero-add}
 use native.Mathlib.Numerals.{add-one}
 use native.Mathlib.Omega.{arith}
@@ -12,7 +12,6 @@ use borrow.Author.Tests.{eqb-true, eqb-false}
 use lib.Dec.{eqb}
 use lib.ListN.{length, take, set, replicate, length-append, length-set, replicate-append-replicate}
 use lib.Seq.{sets, length-sets, sets-eq, take-append-seam}
-use Rattle.framing.specs.declared.Phase.{Phase}
 use Rattle.framing.specs.declared.Phase.the-variants.{Idle, InFrame, EscapeOutside, EscapeInside}
 use Rattle.framing.specs.Frame.{stuffed, stuff, framed}
 use Rattle.framing.specs.FrameLaws.{stuffed-dle, stuffed-other}

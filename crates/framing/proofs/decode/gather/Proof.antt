@@ -5,7 +5,8 @@ use borrow.Author.Needs.{needs}
 use lib.ListN.{length}
 use Rattle.framing.specs.Unstuff.{state}
 use Rattle.framing.specs.declared.Phase.the-variants.{InFrame}
-use Rattle.framing.specs.From.{from, frame-on, frame-pair}
+use Rattle.framing.specs.From.{from}
+use Rattle.framing.specs.FromLaws.{frame-on, frame-pair}
 use Rattle.framing.proofs.decode.gather.Statement.{statement}
 use Rattle.framing.proofs.decode.gather.Tie as tie
 

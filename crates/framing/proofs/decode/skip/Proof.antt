@@ -6,7 +6,8 @@ use borrow.Author.Needs.{needs}
 use lib.ListN.{length}
 use Rattle.framing.specs.Unstuff.{state}
 use Rattle.framing.specs.declared.Phase.the-variants.{Idle}
-use Rattle.framing.specs.From.{from, idle-on}
+use Rattle.framing.specs.From.{from}
+use Rattle.framing.specs.FromLaws.{idle-on}
 use Rattle.framing.proofs.decode.skip.Statement.{statement}
 use Rattle.framing.proofs.decode.skip.Tie as tie
 

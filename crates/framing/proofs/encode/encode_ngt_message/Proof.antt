@@ -3,8 +3,8 @@ use Prim.Native.Nat.{ℕ, _+_, _≤_, _<_}
 use native.Mathlib.Omega.{arith}
 use mathlib.Core.Path.{_≡_, ap, sym, _∙_}
 use borrow.Author.Needs.{needs}
-use borrow.Author.Tests.{leb-true, leb-false}
 use lib.ListN.{length}
+use Rattle.field.specs.Tests.{le-said, lt-said}
 use Rattle.framing.specs.EncodeLaws.{encoded-6, encoded-7, encoded-by}
 use Rattle.framing.specs.FrameLaws.{frame-wire, wire-least}
 use Rattle.framing.specs.Frame.{frame, wire}
@@ -33,7 +33,7 @@ has-room-requires : tie.Need-has-room-requires
 has-room-requires c κs = search needs
 
 write-frame-requires : tie.Need-write-frame-requires
-write-frame-requires c κs = leb-true _ _ (sym (c .before .before .has-room .ensures) ∙ c .before .if2 .taken)
+write-frame-requires c κs = le-said _ _ (c .before .before .has-room .ensures) (c .before .if2 .taken)
 
 -- the frame is longer than what is taken from its length
 least : (c : tie.After-write-frame)
@@ -62,7 +62,7 @@ returns-2 c =
     let r = e .before in
     let w = r .before in
     let a = w .before .before .before .before .args in
-    let f : length (wire (a .cmd) (length (a .payload .now)) (a .payload .now) (w .checksum-byte .result)) ≤ length (a .out .now) = leb-true _ _ (sym (r .has-room .ensures) ∙ e .if2 .taken) in
+    let f : length (wire (a .cmd) (length (a .payload .now)) (a .payload .now) (w .checksum-byte .result)) ≤ length (a .out .now) = le-said _ _ (r .has-room .ensures) (e .if2 .taken) in
     encoded-by (a .cmd) (a .payload .now) (a .out .now) _ (w .before .if1 .left) (omega (arith, ap length (whole w), f))
     (whole w) (k .write-frame .ensures .0) (k .write-frame .ensures .1)
 
@@ -71,7 +71,7 @@ returns-3 c =
     let r = c .before in
     let w = r .before in
     let a = w .before .before .before .before .args in
-    let f : length (a .out .now) < length (wire (a .cmd) (length (a .payload .now)) (a .payload .now) (w .checksum-byte .result)) = leb-false _ _ (sym (r .has-room .ensures) ∙ c .if2 .left) in
+    let f : length (a .out .now) < length (wire (a .cmd) (length (a .payload .now)) (a .payload .now) (w .checksum-byte .result)) = lt-said _ _ (r .has-room .ensures) (c .if2 .left) in
     sym (encoded-7 _ _ _ (w .before .if1 .left) (omega (arith, ap length (whole w), f)))
 
 pub encode-ngt-message-spec : {M : Type 1} → statement M

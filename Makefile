@@ -1,0 +1,10 @@
+# make run   lists a stored capture of a gateway
+# make test  the gate: proves everything, tries the must-fail edits, runs the programs
+.PHONY: run test
+
+run:
+	@rt check listing >/dev/null || { rt check listing; exit 1; }
+	@target/bin/listing <samples/start-up.ngt
+
+test:
+	@bash .ci/run
