@@ -34,17 +34,6 @@ outcomeOf (BadEscape b) = error 4 (b ∷ [])
 outcomeOf TooLong = error 5 []
 outcomeOf (Refused number) = refused number
 
--- the event that an outcome tells of
-unfoldable pub eventOf : Outcome → Event
-eventOf quiet = Quiet
-eventOf (message c n) = Message c n
-eventOf (error number values) =
-    pick (eqb number 1) ShortMessage
-    (pick (eqb number 2) BadChecksum
-    (pick (eqb number 3) (LengthMismatch (getD values 0 0) (getD values 1 0))
-    (pick (eqb number 4) (BadEscape (getD values 0 0)) TooLong)))
-eventOf (refused number) = Refused number
-
 -- "Closing tests in order: fewer than 3 bytes, error 1; sum, error 2; declared length against count minus 3, error 3."
 unfoldable pub closing : List ℕ → Outcome
 closing body =

@@ -14,6 +14,7 @@ use Rattle.field.specs.Pick.{pick}
 use Rattle.framing.specs.Unstuff.{State}
 use Rattle.framing.specs.Unstuff as unstuff
 use Rattle.framing.specs.Decode.{quiet, Step, step, after}
+use Rattle.framing.specs.DecodeLaws.{outcome-tells}
 use Rattle.framing.specs.Feed.{Feed, fed, toldFed, shift, isQuiet}
 
 -- a loop over the input, by the place in it
@@ -108,3 +109,14 @@ used-rest r buf s bytes at e h =
     let u : r .used ≡ fed s rest .used = ap (λ (f : Feed). f .used) e in
     let p : 0 < length rest = omega (arith, n) in
     (omega (arith, u, fed-some s rest p), omega (arith, u, n, fed-bound s rest))
+
+-- what a contract says by `toldFed` leaves nothing of the answer open, nor of the buffer
+pub fed-tells : (r q : Fed) (o p : List ℕ) → toldFed r o ≡ toldFed q p → (r ≡ q) × (o ≡ p)
+fed-tells r q o p e =
+    let phases = ap (λ (f : Feed). f .next .phase) e in
+    let counts = ap (λ (f : Feed). f .next .count) e in
+    let uses = ap (λ (f : Feed). f .used) e in
+    let events = outcome-tells (r .event) (q .event) (ap (λ (f : Feed). f .outcome) e) in (
+      λ i. record { decoder = record { phase = phases i; count = counts i }; used = uses i; event = events i },
+      ap (λ (f : Feed). f .next .buffer) e,
+    )
