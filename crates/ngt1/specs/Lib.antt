@@ -1,0 +1,3 @@
+-- The definitions that the contracts of the exported functions cite, and the laws about them.
+pub mod Convention
+pub mod Numbers
