@@ -82,7 +82,13 @@ fn told_of(e: Event) -> Told
 
 // Feeds bytes up to and with the one that gives the first event. answer: phase, count, bytes used, kind, first, second.
 #[no_mangle]
-pub extern "C" fn ngt1_feed(phase: u8, count: usize, buf: &mut [u8], bytes: &[u8], answer: &mut [u64]) -> u64
+pub extern "C" fn ngt1_feed(
+    phase: u8,
+    count: usize,
+    buf: &mut [u8],
+    bytes: &[u8],
+    answer: &mut [u64],
+) -> u64
     ensures { λ r. ⌜ called r (now (buf .exit)) (now (answer .exit)) ≡ feeds phase count (now (buf .entry)) (now (bytes .entry)) (now (answer .entry)) ⌝ }
 {
     if answer.len() < 6 {
@@ -100,12 +106,28 @@ pub extern "C" fn ngt1_feed(phase: u8, count: usize, buf: &mut [u8], bytes: &[u8
     let after = next.phase;
     let e = f.event;
     let t = told_of(e);
-    give(answer, &[number_of(after), next.count as u64, f.used as u64, t.kind, t.first, t.second])
+    give(
+        answer,
+        &[
+            number_of(after),
+            next.count as u64,
+            f.used as u64,
+            t.kind,
+            t.first,
+            t.second,
+        ],
+    )
 }
 
 // Feeds one byte. answer: phase, count, kind, first, second.
 #[no_mangle]
-pub extern "C" fn ngt1_push(phase: u8, count: usize, buf: &mut [u8], b: u8, answer: &mut [u64]) -> u64
+pub extern "C" fn ngt1_push(
+    phase: u8,
+    count: usize,
+    buf: &mut [u8],
+    b: u8,
+    answer: &mut [u64],
+) -> u64
     ensures { λ r. ⌜ called r (now (buf .exit)) (now (answer .exit)) ≡ pushes phase count (now (buf .entry)) b (now (answer .entry)) ⌝ }
 {
     if answer.len() < 5 {
@@ -123,5 +145,14 @@ pub extern "C" fn ngt1_push(phase: u8, count: usize, buf: &mut [u8], b: u8, answ
     let after = next.phase;
     let e = p.event;
     let t = told_of(e);
-    give(answer, &[number_of(after), next.count as u64, t.kind, t.first, t.second])
+    give(
+        answer,
+        &[
+            number_of(after),
+            next.count as u64,
+            t.kind,
+            t.first,
+            t.second,
+        ],
+    )
 }

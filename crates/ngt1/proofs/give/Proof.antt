@@ -2,14 +2,12 @@
 use Prim.Native.Nat.{_≤_, _-_}
 use native.Mathlib.Omega.{arith}
 use mathlib.Core.Path.{_≡_, refl}
-use Rattle.ngt1.specs.Convention.{sets-more, sets-all}
+use borrow.Author.Needs.{needs}
 use lib.ListN.{length, take}
 use lib.Seq.{sets}
-use borrow.Author.Needs.{needs}
+use Rattle.ngt1.specs.Convention.{sets-more, sets-all}
 use Rattle.ngt1.proofs.give.Statement.{statement}
 use Rattle.ngt1.proofs.give.Tie as tie
-use Rattle.ngt1.proofs.give.Reads as reads
-use Rattle.ngt1.proofs.give.Lts as lts
 
 abbrev Inv-loop : tie.InvT-loop
 Inv-loop answer₀ numbers i₀ answer i = (i ≤ length numbers) × (length answer ≡ length answer₀) × (answer ≡ sets answer₀ 0 (take i numbers))
@@ -17,46 +15,36 @@ Inv-loop answer₀ numbers i₀ answer i = (i ≤ length numbers) × (length ans
 abbrev μ-loop : tie.MeasureT-loop
 μ-loop answer₀ numbers i₀ answer i = length numbers - i
 
--- src/lib.rt:19:5
 loop-holds : tie.Need-loop-holds Inv-loop μ-loop
 loop-holds c = search needs
 
--- src/lib.rt:20:21
 mul-answer : tie.Need-mul-answer Inv-loop μ-loop
 mul-answer c = search needs
 
--- src/lib.rt:20:21
 shared-slice-read-answer : tie.Need-shared-slice-read-answer Inv-loop μ-loop
 shared-slice-read-answer c = search needs
 
--- src/lib.rt:20:9
 mul-answer-2 : tie.Need-mul-answer-2 Inv-loop μ-loop
 mul-answer-2 c = search needs
 
--- src/lib.rt:20:9
 slice-write-answer : tie.Need-slice-write-answer Inv-loop μ-loop
 slice-write-answer c = search needs
 
--- src/lib.rt:21:9
 add-i : tie.Need-add-i Inv-loop μ-loop
 add-i c = search needs
 
--- src/lib.rt:19:5
 loop-less : tie.Need-loop-less Inv-loop μ-loop
 loop-less c = search needs
 
--- src/lib.rt:19:5
 loop-again : tie.Need-loop-again Inv-loop μ-loop
 loop-again c =
     let l = c .before .before in
     let a = l .before .args in
     (search needs, search needs, sets-more (a .numbers .now) (a .answer .now) (l .loop .answer) (l .loop .i) (omega arith) (l .loop .inv .2))
 
--- src/lib.rt:14:1
 same-length : tie.Need-same-length Inv-loop μ-loop
 same-length c = search needs
 
--- src/lib.rt:14:1
 returns : tie.Need-returns Inv-loop μ-loop
 returns c =
     let l = c .before in

@@ -2,119 +2,88 @@
 use borrow.Author.Needs.{needs}
 use Rattle.ngt1.proofs.frames.told_of.Statement.{statement}
 use Rattle.ngt1.proofs.frames.told_of.Tie as tie
-use Rattle.ngt1.proofs.frames.told_of.Reads as reads
-use Rattle.ngt1.proofs.frames.told_of.Lts as lts
-use Rattle.ngt1.proofs.frames.tell.Reads as tell-reads
 
--- src/frames.rt:72:25
 enum-told : tie.Need-enum-told
 enum-told c = search needs
 
--- src/frames.rt:72:25
 tell-requires : tie.Need-tell-requires
 tell-requires c κs = search needs
 
--- src/frames.rt:73:26
 enum-known-e : tie.Need-enum-known-e
 enum-known-e c = search needs
 
--- src/frames.rt:73:54
 cast-tell : tie.Need-cast-tell
 cast-tell c = search needs
 
--- src/frames.rt:73:44
 tell-requires-2 : tie.Need-tell-requires-2
 tell-requires-2 c κs = search needs
 
--- src/frames.rt:74:32
 enum-told-2 : tie.Need-enum-told-2
 enum-told-2 c = search needs
 
--- src/frames.rt:74:32
 tell-requires-3 : tie.Need-tell-requires-3
 tell-requires-3 c κs = search needs
 
--- src/frames.rt:75:31
 enum-told-3 : tie.Need-enum-told-3
 enum-told-3 c = search needs
 
--- src/frames.rt:75:31
 tell-requires-4 : tie.Need-tell-requires-4
 tell-requires-4 c κs = search needs
 
--- src/frames.rt:76:33
 enum-known-e-2 : tie.Need-enum-known-e-2
 enum-known-e-2 c = search needs
 
--- src/frames.rt:76:63
 cast-tell-2 : tie.Need-cast-tell-2
 cast-tell-2 c = search needs
 
--- src/frames.rt:76:55
 tell-requires-5 : tie.Need-tell-requires-5
 tell-requires-5 c κs = search needs
 
--- src/frames.rt:77:26
 enum-known-e-3 : tie.Need-enum-known-e-3
 enum-known-e-3 c = search needs
 
--- src/frames.rt:77:40
 cast-tell-3 : tie.Need-cast-tell-3
 cast-tell-3 c = search needs
 
--- src/frames.rt:77:32
 tell-requires-6 : tie.Need-tell-requires-6
 tell-requires-6 c κs = search needs
 
--- src/frames.rt:78:27
 enum-told-4 : tie.Need-enum-told-4
 enum-told-4 c = search needs
 
--- src/frames.rt:78:27
 tell-requires-7 : tie.Need-tell-requires-7
 tell-requires-7 c κs = search needs
 
--- src/frames.rt:79:24
 enum-known-e-4 : tie.Need-enum-known-e-4
 enum-known-e-4 c = search needs
 
--- src/frames.rt:79:40
 cast-tell-4 : tie.Need-cast-tell-4
 cast-tell-4 c = search needs
 
--- src/frames.rt:79:35
 tell-requires-8 : tie.Need-tell-requires-8
 tell-requires-8 c κs = search needs
 
--- src/frames.rt:68:1
 returns : tie.Need-returns
 returns c = rw (c .before .enum-told .given .1) (c .tell .ensures)
 
--- src/frames.rt:68:1
 returns-2 : tie.Need-returns-2
 returns-2 c = rw (c .before .before .e .given .1) (c .tell2 .ensures)
 
--- src/frames.rt:68:1
 returns-3 : tie.Need-returns-3
 returns-3 c = rw (c .before .enum-told2 .given .1) (c .tell3 .ensures)
 
--- src/frames.rt:68:1
 returns-4 : tie.Need-returns-4
 returns-4 c = rw (c .before .enum-told3 .given .1) (c .tell4 .ensures)
 
--- src/frames.rt:68:1
 returns-5 : tie.Need-returns-5
 returns-5 c = rw (c .before .before .e2 .given .1) (c .tell5 .ensures)
 
--- src/frames.rt:68:1
 returns-6 : tie.Need-returns-6
 returns-6 c = rw (c .before .before .e3 .given .1) (c .tell6 .ensures)
 
--- src/frames.rt:68:1
 returns-7 : tie.Need-returns-7
 returns-7 c = rw (c .before .enum-told4 .given .1) (c .tell7 .ensures)
 
--- src/frames.rt:68:1
 returns-8 : tie.Need-returns-8
 returns-8 c = rw (c .before .before .e4 .given .1) (c .tell8 .ensures)
 
