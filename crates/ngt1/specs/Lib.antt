@@ -2,3 +2,4 @@
 pub mod Convention
 pub mod Numbers
 pub mod NumberLaws
+pub mod Tells
