@@ -7,7 +7,6 @@ use framing::Encoded;
 use framing::Event;
 use framing::Phase;
 ghost use mathlib.Core.Path.{_≡_};
-ghost use Prim.Native.Nat.{_≤_};
 ghost use Rattle.framing.specs.Decode.{outcomeOf};
 ghost use Rattle.ngt1.specs.Convention.{called};
 ghost use Rattle.ngt1.specs.Numbers.{phaseOf, numberOf, toldOf, encodes, feeds, pushes};

@@ -2,7 +2,7 @@
 // It stands above every layer, keeps no state, and tells in numbers what a layer's contract tells.
 // One convention: results go into a lent `answer`. Where it has fewer places than the function needs, nothing at all is done
 // and 0 is returned, else 1. Places of `answer` after those named keep their contents.
-// Numbers: `frames.rt` has those of framing.
+// Numbers: 0 done or nothing, 1 to 16 the causes of document 01, 100 a message; `frames.rt` has the phases and the kinds of an event.
 ghost use mathlib.Core.Path.{_≡_};
 ghost use Prim.Native.Nat.{_≤_};
 ghost use lib.ListN.{length};
