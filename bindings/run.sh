@@ -1,0 +1,46 @@
+#!/usr/bin/env bash
+# Compiles the C and the Rust example against the static library and runs them; one line for each.
+# The library is built where it is missing or older than a source. A compiler that is missing is passed over.
+# Exit status 1 where anything failed.
+set -u
+cd "$(dirname "${BASH_SOURCE[0]}")/.." || exit 1
+lib=target/staticlib/libngt1.a
+
+if [ "$(uname -m)" != x86_64 ]; then
+    echo "bindings: passed over, the library is for x86-64"
+    exit 0
+fi
+mkdir -p target
+if [ ! -f "$lib" ] || [ -n "$(find crates.txt crates/*/src crates/*/specs crates/*/proofs -newer "$lib" -type f 2>/dev/null | head -n 1)" ]; then
+    rt staticlib ngt1 >target/bindings.log 2>&1 || {
+        tail -n 5 target/bindings.log
+        echo "bindings: FAILED, no static library"
+        exit 1
+    }
+fi
+work=$(mktemp -d target/bindings.XXXXXX) || exit 1
+trap 'rm -rf "$work"' EXIT
+status=0
+
+# run NAME COMPILER WORDS..: compiles to $work/NAME, runs it, and prints one line
+run() {
+    local name=$1 compiler=$2
+    shift 2
+    if ! command -v "$compiler" >/dev/null 2>&1; then
+        echo "bindings: $name passed over, no $compiler"
+    elif ! "$compiler" "$@" >"$work/$name.log" 2>&1; then
+        cat "$work/$name.log"
+        echo "bindings: $name FAILED to compile"
+        status=1
+    elif ! "$work/$name" >"$work/$name.log" 2>&1; then
+        cat "$work/$name.log"
+        echo "bindings: $name FAILED"
+        status=1
+    else
+        echo "bindings: $name ok"
+    fi
+}
+
+run c cc -std=c99 -pedantic -Wall -Wextra -Werror -O2 -I bindings/c bindings/c/example.c "$lib" -o "$work/c"
+run rust rustc --edition 2021 -D warnings -O bindings/rust/example.rs -L target/staticlib -l static=ngt1 -o "$work/rust"
+exit $status
