@@ -61,7 +61,7 @@ uint64_t ngt1_encode(uint8_t cmd, const uint8_t *payload, size_t payload_len, ui
  * Feeds bytes up to and with the one that gives the first event. The caller goes on after the bytes used.
  *   answer[0]  phase after
  *   answer[1]  count after
- *   answer[2]  bytes used: all where there was no event; at a refusal 1, or 0 where the phase is over 3
+ *   answer[2]  bytes used: all where there was no event; none where a byte was refused
  *   answer[3]  kind: 0, 100, an error 1 to 5, or a refusal (16, then 7)
  *   answer[4]  first value
  *   answer[5]  second value

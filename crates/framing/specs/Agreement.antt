@@ -13,7 +13,7 @@ use Rattle.framing.specs.Frame.{frame, framed, body}
 use Rattle.framing.specs.Unstuff.{State, state}
 use Rattle.framing.specs.Unstuff as unstuff
 use Rattle.framing.specs.Decode.{Outcome, quiet, message, payloadOf, base, step, outcomes, after}
-use Rattle.framing.specs.Feed.{Feed, fed, shift, isQuiet}
+use Rattle.framing.specs.Feed.{Feed, fed, shift, isQuiet, taken}
 use Rattle.framing.specs.Delivery.{delivered}
 use Rattle.framing.specs.Encode.{wrote, encoded}
 use Rattle.framing.specs.EncodeLaws.{wrote-says}
@@ -31,23 +31,24 @@ tailOf [] = []
 tailOf (x ∷ xs) = xs
 
 -- quiet bytes and then one that gives an event: fed up to it
-pub fed-last : (s : State) (bs rest : List ℕ) (o : Outcome) (n : ℕ) → length bs ≡ suc n → outcomes s bs ≡ replicate n quiet ++ (o ∷ []) → isQuiet o ≡ false
+pub fed-last : (s : State) (bs rest : List ℕ) (o : Outcome) (n : ℕ) → length bs ≡ suc n → outcomes s bs ≡ replicate n quiet ++ (o ∷ []) → isQuiet o ≡ false → taken o ≡ 1
     → fed s (bs ++ rest) ≡ ended (after s bs) (length bs) o
 unfolding fed unstuff.outcomes unstuff.after
-fed-last s [] rest o n l e q = absurd (omega arith)
-fed-last s (b ∷ []) rest o zero l e q =
+fed-last s [] rest o n l e q u = absurd (omega arith)
+fed-last s (b ∷ []) rest o zero l e q u =
     let h : step s b .outcome ≡ o = ap headOf e in
-    ap (λ (x : Outcome). pick (isQuiet x) (shift 1 (fed (step s b .next) rest)) (ended (step s b .next) 1 x)) h
-    ∙ ap (λ (t : Bool). pick t (shift 1 (fed (step s b .next) rest)) (ended (step s b .next) 1 o)) q
-fed-last s (b ∷ []) rest o (suc n) l e q = absurd (omega arith)
-fed-last s (b ∷ c ∷ bs) rest o zero l e q = absurd (omega arith)
-fed-last s (b ∷ c ∷ bs) rest o (suc n) l e q =
+    ap (λ (x : Outcome). pick (isQuiet x) (shift 1 (fed (step s b .next) rest)) (ended (step s b .next) (taken x) x)) h
+    ∙ ap (λ (t : Bool). pick t (shift 1 (fed (step s b .next) rest)) (ended (step s b .next) (taken o) o)) q
+    ∙ ap (λ (k : ℕ). ended (step s b .next) k o) u
+fed-last s (b ∷ []) rest o (suc n) l e q u = absurd (omega arith)
+fed-last s (b ∷ c ∷ bs) rest o zero l e q u = absurd (omega arith)
+fed-last s (b ∷ c ∷ bs) rest o (suc n) l e q u =
     let h : step s b .outcome ≡ quiet = ap headOf e in
     let t : outcomes (step s b .next) (c ∷ bs) ≡ replicate n quiet ++ (o ∷ []) = ap tailOf e in
     let m : length (c ∷ bs) ≡ suc n = omega arith in
-    let i = fed-last (step s b .next) (c ∷ bs) rest o n m t q in
+    let i = fed-last (step s b .next) (c ∷ bs) rest o n m t q u in
     let k : 1 + length (c ∷ bs) ≡ length (b ∷ c ∷ bs) = omega arith in
-    ap (λ (x : Outcome). pick (isQuiet x) (shift 1 (fed (step s b .next) (c ∷ bs ++ rest))) (ended (step s b .next) 1 x)) h
+    ap (λ (x : Outcome). pick (isQuiet x) (shift 1 (fed (step s b .next) (c ∷ bs ++ rest))) (ended (step s b .next) (taken x) x)) h
     ∙ ap (λ (f : Feed). shift 1 f) i
     ∙ ap (λ (k : ℕ). ended (after s (b ∷ c ∷ bs)) k o) k
 
@@ -60,7 +61,7 @@ pub fed-delivered : (s : State) (cmd : ℕ) (payload rest : List ℕ) → Ready 
     → fed s (frame cmd payload ++ rest) ≡ ended (state Idle 0 (sets (s .buffer) 0 (body cmd payload))) (length (frame cmd payload)) (message cmd (length payload))
 fed-delivered s cmd payload rest r h =
     let d = delivered s cmd payload r h in
-    fed-last s (frame cmd payload) rest (message cmd (length payload)) (length (frame cmd payload) - 1) (frame-some cmd payload) (d .gives) refl
+    fed-last s (frame cmd payload) rest (message cmd (length payload)) (length (frame cmd payload) - 1) (frame-some cmd payload) (d .gives) refl refl
     ∙ ap (λ (t : State). ended t (length (frame cmd payload)) (message cmd (length payload))) (d .ends)
 
 -- what the decoder reads of an output that the encoder wrote to: just the bytes written, as the message, with its payload

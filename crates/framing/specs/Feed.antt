@@ -7,7 +7,7 @@ use Rattle.framing.specs.Unstuff.{State, state}
 use Rattle.framing.specs.Decode.{Outcome, quiet, message, error, refused, step, outcomeOf}
 use Rattle.framing.specs.declared.Fed.{Fed}
 
--- the state after the bytes used, how many those are, and what the last gave
+-- the state after the bytes used, how many those are, and what came of them
 pub record Feed : Type 0 where
   pub next : State
   pub used : ℕ
@@ -22,13 +22,20 @@ isQuiet (message c n) = false
 isQuiet (error number values) = false
 isQuiet (refused number) = false
 
+-- how many bytes are taken with an outcome: a byte that is refused "counts everywhere as never given"
+abbrev pub taken : Outcome → ℕ
+taken quiet = 1
+taken (message c n) = 1
+taken (error number values) = 1
+taken (refused number) = 0
+
 -- the same, with so many bytes used before
 abbrev pub shift : ℕ → Feed → Feed
 shift i f = record { next = f .next; used = i + f .used; outcome = f .outcome }
 
--- on after a quiet byte, and no further after an event
+-- `push_byte` repeated: on after a quiet byte, and no further after an event or a refusal
 unfoldable pub fed : State → List ℕ → Feed
 fed s [] = record { next = s; used = 0; outcome = quiet }
 fed s (b ∷ bs) =
     pick (isQuiet (step s b .outcome)) (shift 1 (fed (step s b .next) bs))
-    (record { next = step s b .next; used = 1; outcome = step s b .outcome })
+    (record { next = step s b .next; used = taken (step s b .outcome); outcome = step s b .outcome })

@@ -1,6 +1,7 @@
 -- Laws of feeding bytes up to the first event: what a loop over the input goes by, and what a caller of `push_bytes` goes by (it
--- takes one byte at least where there is one, no more than there are, and all where no event came). Assumes nothing.
-use Prim.Native.Nat.{ℕ, suc, _+_, _-_, _≤_, _<_}
+-- takes one byte at least where there is one, unless it is refused, no more than there are, and all where no event came).
+-- Assumes nothing.
+use Prim.Native.Nat.{ℕ, zero, suc, _+_, _-_, _≤_, _<_}
 use native.Mathlib.Omega.{arith}
 use native.Mathlib.Nat.{add-zero, zero-add, add-assoc, add-comm}
 use native.Mathlib.Numerals.{add-one}
@@ -13,9 +14,10 @@ use Rattle.framing.specs.declared.Fed.{Fed}
 use Rattle.field.specs.Pick.{pick}
 use Rattle.framing.specs.Unstuff.{State}
 use Rattle.framing.specs.Unstuff as unstuff
-use Rattle.framing.specs.Decode.{quiet, Step, step, after}
+use Rattle.framing.specs.Decode.{Outcome, quiet, message, error, refused, outcomeOf, Step, step, after}
 use Rattle.framing.specs.DecodeLaws.{outcome-tells}
-use Rattle.framing.specs.Feed.{Feed, fed, toldFed, shift, isQuiet}
+use Rattle.framing.specs.Given.{refused-same}
+use Rattle.framing.specs.Feed.{Feed, fed, toldFed, shift, isQuiet, taken}
 
 -- a loop over the input, by the place in it
 
@@ -40,7 +42,7 @@ fed-on s bs i f t h e g q =
 
 -- a byte that gives an event
 pub fed-stop : (s : State) (bs : List ℕ) (i : ℕ) (f : Feed) (t : Step) → i < length bs → f ≡ shift i (fed s (drop i bs)) → t ≡ step s (getD bs i 0)
-    → isQuiet (t .outcome) ≡ false → f ≡ record { next = t .next; used = i + 1; outcome = t .outcome }
+    → isQuiet (t .outcome) ≡ false → f ≡ record { next = t .next; used = i + taken (t .outcome); outcome = t .outcome }
 unfolding fed
 fed-stop s bs i f t h e g q =
     let q′ : isQuiet (step s (getD bs i 0) .outcome) ≡ false = rw g at q in
@@ -54,26 +56,39 @@ fed-end s bs i f h e = e ∙ rw (drop-of-length-le bs h, add-zero)
 
 -- what the first byte gave, and what comes of the others
 abbrev pub joined : Bool → Feed → Step → Feed
-joined t f s = pick t (shift 1 f) (record { next = s .next; used = 1; outcome = s .outcome })
+joined t f s = pick t (shift 1 f) (record { next = s .next; used = taken (s .outcome); outcome = s .outcome })
+
+taken-most : (o : Outcome) → taken o ≤ 1
+taken-most quiet = omega arith
+taken-most (message c n) = omega arith
+taken-most (error number values) = omega arith
+taken-most (refused number) = omega arith
 
 bound-step : (t : Bool) (f : Feed) (s : Step) (n : ℕ) → f .used ≤ n → joined t f s .used ≤ suc n
 bound-step true f s n h = omega arith
-bound-step false f s n h = omega arith
+bound-step false f s n h = omega (arith, taken-most (s .outcome))
 
-some-step : (t : Bool) (f : Feed) (s : Step) → 1 ≤ joined t f s .used
-some-step true f s = omega arith
-some-step false f s = omega arith
+some-step : (t : Bool) (f : Feed) (s : Step) → taken (joined t f s .outcome) ≡ 1 → 1 ≤ joined t f s .used
+some-step true f s h = omega arith
+some-step false f s h = omega arith
 
 all-step : (t : Bool) (f : Feed) (s : Step) (n : ℕ) → isQuiet (s .outcome) ≡ t → (isQuiet (f .outcome) ≡ true → f .used ≡ n)
     → isQuiet (joined t f s .outcome) ≡ true → joined t f s .used ≡ suc n
 all-step true f s n e h q = omega (arith, h q)
 all-step false f s n e h q = let z : _≡_ {A = Bool} true false = sym q ∙ e in let y : _≡_ {A = ℕ} 0 1 = cc in absurd (omega arith)
 
+-- the byte that gives an event is taken, and one that is refused changes nothing
+taken-after : (s : State) (b : ℕ) (bs : List ℕ) (k : ℕ) → taken (step s b .outcome) ≡ k → k ≤ 1 → after s (take k (b ∷ bs)) ≡ step s b .next
+unfolding unstuff.after
+taken-after s b bs zero e h = sym (refused-same s b e)
+taken-after s b bs (suc zero) e h = refl
+taken-after s b bs (suc (suc k)) e h = absurd (omega arith)
+
 after-step : (t : Bool) (f : Feed) (s : State) (b : ℕ) (bs : List ℕ) → after (step s b .next) (take (f .used) bs) ≡ f .next
     → after s (take (joined t f (step s b) .used) (b ∷ bs)) ≡ joined t f (step s b) .next
 unfolding unstuff.after
 after-step true f s b bs h = rw (add-comm 1 (f .used), add-one) h
-after-step false f s b bs h = refl
+after-step false f s b bs h = taken-after s b bs (taken (step s b .outcome)) refl (taken-most (step s b .outcome))
 
 -- no more than there are
 pub fed-bound : (s : State) (bs : List ℕ) → fed s bs .used ≤ length bs
@@ -81,11 +96,11 @@ unfolding fed
 fed-bound s [] = omega arith
 fed-bound s (b ∷ bs) = bound-step (isQuiet (step s b .outcome)) (fed (step s b .next) bs) (step s b) (length bs) (fed-bound (step s b .next) bs)
 
--- one at least, where there is one
-pub fed-some : (s : State) (bs : List ℕ) → 0 < length bs → 1 ≤ fed s bs .used
+-- one at least, where there is one and none is refused
+pub fed-some : (s : State) (bs : List ℕ) → 0 < length bs → taken (fed s bs .outcome) ≡ 1 → 1 ≤ fed s bs .used
 unfolding fed
-fed-some s [] h = absurd (omega arith)
-fed-some s (b ∷ bs) h = some-step (isQuiet (step s b .outcome)) (fed (step s b .next) bs) (step s b)
+fed-some s [] h e = absurd (omega arith)
+fed-some s (b ∷ bs) h e = some-step (isQuiet (step s b .outcome)) (fed (step s b .next) bs) (step s b) e
 
 -- all, where no event came
 pub fed-all : (s : State) (bs : List ℕ) → isQuiet (fed s bs .outcome) ≡ true → fed s bs .used ≡ length bs
@@ -99,16 +114,17 @@ unfolding fed unstuff.after
 fed-after s [] = refl
 fed-after s (b ∷ bs) = after-step (isQuiet (step s b .outcome)) (fed (step s b .next) bs) s b bs (fed-after (step s b .next) bs)
 
--- what a loop over the rest of the input goes by: it moves, and stays inside
+-- what a loop over the rest of the input goes by: it moves, unless a byte is refused, and stays inside
 pub used-rest : (r : Fed) (buf : List ℕ) (s : State) (bytes : List ℕ) (at : ℕ) → toldFed r buf ≡ fed s (take (length bytes - at) (drop at bytes))
-    → at < length bytes → (1 ≤ r .used) × (at + r .used ≤ length bytes)
+    → at < length bytes → (taken (outcomeOf (r .event)) ≡ 1 → 1 ≤ r .used) × (at + r .used ≤ length bytes)
 used-rest r buf s bytes at e h =
     let rest = take (length bytes - at) (drop at bytes) in
     let k : length bytes - at ≤ length (drop at bytes) = rw length-drop (omega arith) in
     let n : length rest ≡ length bytes - at = length-take-le (length bytes - at) (drop at bytes) k in
     let u : r .used ≡ fed s rest .used = ap (λ (f : Feed). f .used) e in
+    let o : outcomeOf (r .event) ≡ fed s rest .outcome = ap (λ (f : Feed). f .outcome) e in
     let p : 0 < length rest = omega (arith, n) in
-    (omega (arith, u, fed-some s rest p), omega (arith, u, n, fed-bound s rest))
+    (λ g. omega (arith, u, fed-some s rest p (ap taken (sym o) ∙ g)), omega (arith, u, n, fed-bound s rest))
 
 -- what a contract says by `toldFed` leaves nothing of the answer open, nor of the buffer
 pub fed-tells : (r q : Fed) (o p : List ℕ) → toldFed r o ≡ toldFed q p → (r ≡ q) × (o ≡ p)

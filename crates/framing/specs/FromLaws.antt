@@ -15,7 +15,8 @@ use Rattle.framing.specs.Decode.{Outcome, quiet, message, error, refused
 use Rattle.framing.specs.declared.Event.{Event}
 use Rattle.framing.specs.declared.Fed.{Fed}
 use Rattle.framing.specs.DecodeLaws.{idle-dle, idle-other, frame-dle, frame-other, outside-dle, outside-stx, outside-etx, outside-other, inside-dle, inside-stx, inside-etx, inside-other, collected-more, collected-full, step-16, step-7, step-taken}
-use Rattle.framing.specs.Feed.{Feed, toldFed, fed, shift, isQuiet}
+use Rattle.framing.specs.Feed.{Feed, toldFed, fed, shift, isQuiet, taken}
+use Rattle.framing.specs.Given.{closing-taken}
 use Rattle.framing.specs.FeedLaws.{fed-start, fed-on, fed-stop, fed-end}
 use Rattle.framing.specs.From.{from}
 
@@ -28,7 +29,7 @@ module _ (s : State) (bytes : List ℕ) (i : ℕ) (t : Step) (h : i < length byt
   unfolding from
   from-on q = fed-on s bytes i (shift i (fed s (drop i bytes))) t h refl (sym e) q
 
-  from-stop : isQuiet (t .outcome) ≡ false → from s i bytes ≡ record { next = t .next; used = i + 1; outcome = t .outcome }
+  from-stop : isQuiet (t .outcome) ≡ false → from s i bytes ≡ record { next = t .next; used = i + taken (t .outcome); outcome = t .outcome }
   unfolding from
   from-stop q = fed-stop s bytes i (shift i (fed s (drop i bytes))) t h refl (sym e) q
 
@@ -53,6 +54,10 @@ closing-loud l =
 
 -- what a byte does, by phase
 module _ (n : ℕ) (buf bytes : List ℕ) (i : ℕ) (small : n ≤ 1024) (room : 1024 ≤ length buf) (h : i < length bytes) where
+  used-one : (l : List ℕ)
+      → _≡_ {A = Feed} (record { next = state Idle 0 buf; used = i + taken (closing l); outcome = closing l }) (record { next = state Idle 0 buf; used = i + 1; outcome = closing l })
+  used-one l = ap {B = Feed} (λ (k : ℕ). record { next = state Idle 0 buf; used = i + k; outcome = closing l }) (closing-taken l)
+
   pub idle-on : (getD bytes i 0 ≡ 0x10 → ⊥) → from (state Idle n buf) i bytes ≡ from (state Idle n buf) (i + 1) bytes
   idle-on d = from-on _ bytes i (to Idle n buf quiet) h (step-taken _ _ _ _ small room ∙ idle-other _ _ _ d) refl
 
@@ -75,7 +80,9 @@ module _ (n : ℕ) (buf bytes : List ℕ) (i : ℕ) (small : n ≤ 1024) (room :
   outside-open d = from-on _ bytes i (to InFrame 0 buf quiet) h (step-taken _ _ _ _ small room ∙ outside-stx _ _ _ d) refl
 
   pub outside-close : getD bytes i 0 ≡ 0x03 → from (state EscapeOutside n buf) i bytes ≡ record { next = state Idle 0 buf; used = i + 1; outcome = closing (take n buf) }
-  outside-close d = from-stop _ bytes i (to Idle 0 buf (closing (take n buf))) h (step-taken _ _ _ _ small room ∙ outside-etx _ _ _ d) (closing-loud _)
+  outside-close d =
+      from-stop _ bytes i (to Idle 0 buf (closing (take n buf))) h (step-taken _ _ _ _ small room ∙ outside-etx _ _ _ d) (closing-loud _)
+      ∙ used-one (take n buf)
 
   pub outside-lost : (getD bytes i 0 ≡ 0x10 → ⊥) → (getD bytes i 0 ≡ 0x02 → ⊥) → (getD bytes i 0 ≡ 0x03 → ⊥) → from (state EscapeOutside n buf) i bytes ≡ from (state Idle 0 buf) (i + 1) bytes
   outside-lost d s e = from-on _ bytes i (to Idle 0 buf quiet) h (step-taken _ _ _ _ small room ∙ outside-other _ _ _ d s e) refl
@@ -90,7 +97,9 @@ module _ (n : ℕ) (buf bytes : List ℕ) (i : ℕ) (small : n ≤ 1024) (room :
   inside-open d = from-on _ bytes i (to InFrame 0 buf quiet) h (step-taken _ _ _ _ small room ∙ inside-stx _ _ _ d) refl
 
   pub inside-close : getD bytes i 0 ≡ 0x03 → from (state EscapeInside n buf) i bytes ≡ record { next = state Idle 0 buf; used = i + 1; outcome = closing (take n buf) }
-  inside-close d = from-stop _ bytes i (to Idle 0 buf (closing (take n buf))) h (step-taken _ _ _ _ small room ∙ inside-etx _ _ _ d) (closing-loud _)
+  inside-close d =
+      from-stop _ bytes i (to Idle 0 buf (closing (take n buf))) h (step-taken _ _ _ _ small room ∙ inside-etx _ _ _ d) (closing-loud _)
+      ∙ used-one (take n buf)
 
   pub inside-bad : (getD bytes i 0 ≡ 0x10 → ⊥) → (getD bytes i 0 ≡ 0x02 → ⊥) → (getD bytes i 0 ≡ 0x03 → ⊥)
       → from (state EscapeInside n buf) i bytes ≡ record { next = state Idle 0 buf; used = i + 1; outcome = error 4 (getD bytes i 0 ∷ []) }
@@ -106,10 +115,10 @@ frame-pair n buf bytes i k room h d e =
 
 -- the refusals
 module _ (p : Phase) (n : ℕ) (buf bytes : List ℕ) (h : 0 < length bytes) where
-  pub refused-16 : 1024 < n → fed (state p n buf) bytes ≡ record { next = state p n buf; used = 1; outcome = refused 16 }
+  pub refused-16 : 1024 < n → fed (state p n buf) bytes ≡ record { next = state p n buf; used = 0; outcome = refused 16 }
   refused-16 k = from-start _ bytes ∙ from-stop _ bytes 0 (to p n buf (refused 16)) h (step-16 _ _ _ _ k) refl
 
-  pub refused-7 : n ≤ 1024 → length buf < 1024 → fed (state p n buf) bytes ≡ record { next = state p n buf; used = 1; outcome = refused 7 }
+  pub refused-7 : n ≤ 1024 → length buf < 1024 → fed (state p n buf) bytes ≡ record { next = state p n buf; used = 0; outcome = refused 7 }
   refused-7 k l = from-start _ bytes ∙ from-stop _ bytes 0 (to p n buf (refused 7)) h (step-7 _ _ _ _ k l) refl
 
 -- what an answer says, from what its parts are

@@ -25,7 +25,7 @@ use Rattle.framing.specs.DecodeLaws.{step-taken, idle-dle, idle-other, f
 use Rattle.framing.specs.UnstuffLaws.{after-append, outcomes-append}
 use Rattle.framing.specs.Stuffing.{Ready}
 use Rattle.framing.specs.Delivery.{delivered, Delivered}
-use Rattle.framing.specs.Feed.{Feed, fed, isQuiet}
+use Rattle.framing.specs.Feed.{Feed, fed, isQuiet, taken}
 use Rattle.framing.specs.FeedLaws.{joined, fed-after}
 use Rattle.framing.specs.Soundness.{new, escaping, Start, Ends, Sound}
 
@@ -535,23 +535,23 @@ record Stops (s : State) (bs : List ℕ) (f : Feed) : Type 0 where
   split : take (f .used) bs ≡ prior ++ (byte ∷ [])
   gives : step (after s prior) byte .outcome ≡ f .outcome
 
-stops-step : (t : Bool) (f : Feed) (s : State) (b : ℕ) (bs : List ℕ) → (isQuiet (f .outcome) ≡ false → Stops (step s b .next) bs f)
-    → isQuiet (joined t f (step s b) .outcome) ≡ false → Stops s (b ∷ bs) (joined t f (step s b))
+stops-step : (t : Bool) (f : Feed) (s : State) (b : ℕ) (bs : List ℕ) → (isQuiet (f .outcome) ≡ false → taken (f .outcome) ≡ 1 → Stops (step s b .next) bs f)
+    → isQuiet (joined t f (step s b) .outcome) ≡ false → taken (joined t f (step s b) .outcome) ≡ 1 → Stops s (b ∷ bs) (joined t f (step s b))
 unfolding unstuff.after
-stops-step true f s b bs h q =
-    let r = h q in
+stops-step true f s b bs h q u =
+    let r = h q u in
     record {
       prior = b ∷ r .prior;
       byte = r .byte;
       split = rw (add-comm 1 (f .used), add-one) (ap (λ (l : List ℕ). b ∷ l) (r .split));
       gives = r .gives;
     }
-stops-step false f s b bs h q = record { prior = []; byte = b; split = refl; gives = refl }
+stops-step false f s b bs h q u = record { prior = []; byte = b; split = ap (λ (k : ℕ). take k (b ∷ bs)) u; gives = refl }
 
-stops : (s : State) (bs : List ℕ) → isQuiet (fed s bs .outcome) ≡ false → Stops s bs (fed s bs)
+stops : (s : State) (bs : List ℕ) → isQuiet (fed s bs .outcome) ≡ false → taken (fed s bs .outcome) ≡ 1 → Stops s bs (fed s bs)
 unfolding fed
-stops s [] q = let y : _≡_ {A = ℕ} 0 1 = cc in absurd (omega arith)
-stops s (b ∷ bs) q = stops-step (isQuiet (step s b .outcome)) (fed (step s b .next) bs) s b bs (stops (step s b .next) bs) q
+stops s [] q u = let y : _≡_ {A = ℕ} 0 1 = cc in absurd (omega arith)
+stops s (b ∷ bs) q u = stops-step (isQuiet (step s b .outcome)) (fed (step s b .next) bs) s b bs (stops (step s b .next) bs) q u
 
 -- a message from `push_bytes`: the bytes fed before and those that it used end with its frame
 pub fed-sound : (buf pre bytes : List ℕ) (cmd n : ℕ) → 1024 ≤ length buf → Bytes (pre ++ bytes)
@@ -559,7 +559,7 @@ pub fed-sound : (buf pre bytes : List ℕ) (cmd n : ℕ) → 1024 ≤ length buf
     → Sound (new buf) (pre ++ take (fed (after (new buf) pre) bytes .used) bytes) cmd n
 fed-sound buf pre bytes cmd n room y e =
     let f = fed (after (new buf) pre) bytes in
-    let r = stops (after (new buf) pre) bytes (ap isQuiet e) in
+    let r = stops (after (new buf) pre) bytes (ap isQuiet e) (ap taken e) in
     let q : pre ++ take (f .used) bytes ≡ (pre ++ r .prior) ++ (r .byte ∷ []) =
     ap (λ (l : List ℕ). pre ++ l) (r .split) ∙ sym (append-assoc pre (r .prior) (r .byte ∷ [])) in
     let p : pre ++ bytes ≡ (pre ++ take (f .used) bytes) ++ drop (f .used) bytes = rw (append-assoc, take-append-drop) in

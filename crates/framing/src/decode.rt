@@ -180,10 +180,10 @@ impl Decoder {
             return told(phase, count, 0, Event::Quiet);
         }
         if MAX_COLLECT < count {
-            return told(phase, count, 1, Event::Refused(16));
+            return told(phase, count, 0, Event::Refused(16));
         }
         if buf.len() < MAX_COLLECT {
-            return told(phase, count, 1, Event::Refused(7));
+            return told(phase, count, 0, Event::Refused(7));
         }
         let mut i = 0;
         while i < bytes.len() {

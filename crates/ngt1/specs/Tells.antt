@@ -1,92 +1,24 @@
 -- The numbers lose nothing: from what a call leaves, phase, count, event and bytes are read back. Assumes nothing.
 -- This holds of what framing gives, and of no more: an error numbered 7 would be told as the refusal 7 is, but there is none.
-use Prim.Native.Nat.{ℕ, _+_, _-_, _%_, _≤_, _<_}
+use Prim.Native.Nat.{ℕ, _+_, _≤_, _<_}
 use native.Mathlib.Omega.{arith}
 use mathlib.Core.Path.{_≡_, refl, ap, sym, _∙_}
 use mathlib.Core.Bool.{Bool, true, false}
 use mathlib.Core.List.{List, [], _∷_}
-use borrow.Author.Tests.{ltb-false}
-use lib.ListN.{length, getD, take, length-take}
+use lib.ListN.{length, getD}
 use lib.Dec.{eqb, leb, ltb}
 use Rattle.field.specs.Pick.{pick}
 use Rattle.framing.specs.declared.Phase.{Phase}
 use Rattle.framing.specs.declared.Phase.the-variants.{Idle, InFrame, EscapeOutside, EscapeInside}
-use Rattle.framing.specs.Frame.{sum, frame}
+use Rattle.framing.specs.Frame.{frame}
 use Rattle.framing.specs.Encode.{Answer, wrote, encoded}
 use Rattle.framing.specs.Encode.{refused as refusal}
-use Rattle.framing.specs.Unstuff as unstuff
-use Rattle.framing.specs.Decode.{Outcome, quiet, message, error, refused, closing, astray, State, state, to, Step, step, byPhase, collected, payloadOf}
-use Rattle.framing.specs.Feed.{Feed, fed, isQuiet, shift}
+use Rattle.framing.specs.Decode.{Outcome, quiet, message, error, refused, State, state, to, Step, step, payloadOf}
+use Rattle.framing.specs.Feed.{Feed, fed}
+use Rattle.framing.specs.Given.{Given, Nothing, Delivered, Short, Sum, Lengths, Escape, Long, Unformed, Roomless, step-gives, fed-gives}
 use Rattle.ngt1.specs.declared.frames.Told.{Told}
 use Rattle.ngt1.specs.Convention.{Reply, reply}
 use Rattle.ngt1.specs.Numbers.{phaseOf, numberOf, tells, toldOf, payloadAt, answerReply, feedReply, stepReply}
-
--- the events that framing gives, over a buffer of so many bytes: a message's payload lies inside it
-pub data Given (room : ℕ) : Outcome → Type 0 where
-  Nothing : Given room quiet
-  Delivered : (c n : ℕ) → 2 + n ≤ room → Given room (message c n)
-  Short : Given room (error 1 [])
-  Sum : Given room (error 2 [])
-  Lengths : (d a : ℕ) → Given room (error 3 (d ∷ a ∷ []))
-  Escape : (b : ℕ) → Given room (error 4 (b ∷ []))
-  Long : Given room (error 5 [])
-  Unformed : Given room (refused 16)
-  Roomless : Given room (refused 7)
-
--- a byte gives no other
-
-abbrev Gives : Step → Type 0
-Gives s = Given (length (s .next .buffer)) (s .outcome)
-
-either : (t : Bool) (x y : Step) → Gives x → Gives y → Gives (pick t x y)
-either true x y g h = g
-either false x y g h = h
-
-closing-gives : (room : ℕ) (l : List ℕ) → length l ≤ room → Given room (closing l)
-unfolding closing
-closing-gives room l h = go (ltb (length l) 3) (eqb (sum l % 256) 0) (eqb (getD l 1 0) (length l - 3)) refl
-  where
-    go : (t u v : Bool) → ltb (length l) 3 ≡ t
-        → Given room (pick t (error 1 []) (pick u (pick v (message (getD l 0 0) (length l - 3)) (error 3 (getD l 1 0 ∷ (length l - 3) ∷ []))) (error 2 [])))
-    go true u v e = Short
-    go false true true e = let k : 3 ≤ length l = ltb-false _ _ e in Delivered (getD l 0 0) (length l - 3) (omega arith)
-    go false true false e = Lengths _ _
-    go false false v e = Sum
-
-closed : (n : ℕ) (buf : List ℕ) → Given (length buf) (closing (take n buf))
-closed n buf = closing-gives (length buf) (take n buf) (simp length-take (omega arith))
-
-collected-gives : (n : ℕ) (buf : List ℕ) (b : ℕ) → Gives (collected n buf b)
-unfolding unstuff.collected
-collected-gives n buf b = either (ltb n 1024) _ _ Nothing Long
-
-astray-gives : (n : ℕ) (buf : List ℕ) (b : ℕ) → Gives (astray n buf b)
-unfolding astray
-astray-gives n buf b = either (eqb b 0x10) _ _ Nothing (either (eqb b 0x03) _ _ (closed n buf) Nothing)
-
-phase-gives : (p : Phase) (n : ℕ) (buf : List ℕ) (b : ℕ) → Gives (byPhase p n buf b)
-unfolding unstuff.byPhase
-phase-gives Idle n buf b = either (eqb b 0x10) _ _ Nothing Nothing
-phase-gives InFrame n buf b = either (eqb b 0x10) _ _ Nothing (collected-gives n buf b)
-phase-gives EscapeOutside n buf b = either (eqb b 0x02) _ _ Nothing (astray-gives n buf b)
-phase-gives EscapeInside n buf b =
-    either (eqb b 0x10) _ _ (collected-gives n buf b) (either (eqb b 0x02) _ _ Nothing (either (eqb b 0x03) _ _ (closed n buf) (Escape b)))
-
-pub step-gives : (s : State) (b : ℕ) → Gives (step s b)
-unfolding unstuff.step
-step-gives s b =
-    either (ltb 1024 (s .count)) _ _ Unformed
-    (either (ltb (length (s .buffer)) 1024) _ _ Roomless (phase-gives (s .phase) (s .count) (s .buffer) b))
-
-first-gives : (t : Bool) (f : Feed) (s : Step) → Given (length (f .next .buffer)) (f .outcome) → Gives s
-    → let r : Feed = pick t (shift 1 f) (record { next = s .next; used = 1; outcome = s .outcome }) in Given (length (r .next .buffer)) (r .outcome)
-first-gives true f s g h = g
-first-gives false f s g h = h
-
-pub fed-gives : (s : State) (bs : List ℕ) → Given (length (fed s bs .next .buffer)) (fed s bs .outcome)
-unfolding fed
-fed-gives s [] = Nothing
-fed-gives s (b ∷ bs) = first-gives (isQuiet (step s b .outcome)) (fed (step s b .next) bs) (step s b) (fed-gives (step s b .next) bs) (step-gives s b)
 
 -- reading back
 
