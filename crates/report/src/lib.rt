@@ -1,0 +1,12 @@
+// The text of report lines, written into a lent slice. Above framing, whose events it puts into words, and below the programs, which only
+// read and write. A line of the listing is at most 105 bytes; every call asks for room for 128.
+mod text;
+mod names;
+mod line;
+mod listing;
+
+pub use line::Line;
+pub use line::event_line;
+pub use listing::Place;
+pub use listing::Listed;
+pub use listing::list_bytes;
