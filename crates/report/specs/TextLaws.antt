@@ -86,6 +86,10 @@ unfolding decimal
 decimal-more n h l =
     digits-more 19 n l ∙ ap (λ (ds : List ℕ). ds ++ ((48 + n % 10) ∷ [])) (sym (digits-steady 18 (n / 10) (omega arith)))
 
+-- a number has a digit more than its tenth part
+pub shorter : (n : ℕ) → n < 2 ^ 64 → 10 ≤ n → length (decimal n) ≡ length (decimal (n / 10)) + 1
+shorter n h l = ap length (decimal-more n h l) ∙ length-append (decimal (n / 10)) ((48 + n % 10) ∷ [])
+
 pub decimal-length : (n : ℕ) → length (decimal n) ≤ 20
 unfolding decimal
 decimal-length n = digits-length 20 n

@@ -1,3 +1,8 @@
+use native.Mathlib.Omega.{arith}
+use mathlib.Core.Path.{ap}
+use lib.ListN.{length}
+use Rattle.report.specs.TextLaws.{decimal-one, decimal-more, shorter}
+use Rattle.report.specs.Puts.{puts-one, puts-first, puts-length}
 use borrow.Author.Needs.{needs}
 use Prim.Native.Nat.{ℕ, _<_}
 use borrow.Fn.Kinds.{In}
@@ -38,7 +43,9 @@ put-decimal-slice-write-out : (t : ℕ) → put-decimal-lts.Need-slice-write-out
   put-decimal-below t,
   put-decimal.Post,
 ) (put-decimal-at t) put-decimal.Post
-put-decimal-slice-write-out t c = search needs
+put-decimal-slice-write-out t c =
+    let b = c .before .before in
+    omega (arith, ap length (decimal-one (b .args .n) (c .if1 .taken)), b .pre .1)
 
 -- src/text.rt:31:16
 put-decimal-add-result : (t : ℕ) → put-decimal-lts.Need-add-result (
@@ -59,14 +66,18 @@ put-decimal-returns : (t : ℕ) → put-decimal-lts.Need-returns (
   put-decimal-below t,
   put-decimal.Post,
 ) (put-decimal-at t) put-decimal.Post
-put-decimal-returns t c = search needs
+put-decimal-returns t c =
+    let b = c .before .before in
+    rw (decimal-one (b .args .n) (c .if1 .taken)) (puts-first _ _ _)
 
 -- src/text.rt:33:9
 put-decimal-put-decimal-requires : (t : ℕ) → put-decimal-lts.Need-put-decimal-requires (
   put-decimal-below t,
   put-decimal.Post,
 ) (put-decimal-at t) put-decimal.Post
-put-decimal-put-decimal-requires t c κs = search needs
+put-decimal-put-decimal-requires t c κs =
+    let b = c .before .before .before in
+    (omega (arith, b .pre .0, c .before .if1 .left), omega (arith, b .pre .1, shorter (b .args .n) (search needs) (c .before .if1 .left)))
 
 -- src/text.rt:34:22
 put-decimal-cast-out-2 : (t : ℕ) → put-decimal-lts.Need-cast-out-2 (
@@ -87,14 +98,20 @@ put-decimal-slice-write-out-2 : (t : ℕ) → put-decimal-lts.Need-slice-write-o
   put-decimal-below t,
   put-decimal.Post,
 ) (put-decimal-at t) put-decimal.Post
-put-decimal-slice-write-out-2 t c = search needs
+put-decimal-slice-write-out-2 t c =
+    let p = c .before .before in
+    let b = p .before .before .before .before in
+    omega (arith, p .put-decimal .ensures .after, puts-length (p .put-decimal .ensures), b .pre .1, shorter (b .args .n) (search needs) (p .before .before .if1 .left))
 
 -- src/text.rt:35:5
 put-decimal-add-result-2 : (t : ℕ) → put-decimal-lts.Need-add-result-2 (
   put-decimal-below t,
   put-decimal.Post,
 ) (put-decimal-at t) put-decimal.Post
-put-decimal-add-result-2 t c = search needs
+put-decimal-add-result-2 t c =
+    let p = c .before .before in
+    let b = p .before .before .before .before in
+    omega (arith, p .put-decimal .ensures .after, b .pre .1, shorter (b .args .n) (search needs) (p .before .before .if1 .left), b .good)
 
 -- src/text.rt:25:1
 put-decimal-same-length-2 : (t : ℕ) → put-decimal-lts.Need-same-length-2 (
@@ -108,7 +125,10 @@ put-decimal-returns-2 : (t : ℕ) → put-decimal-lts.Need-returns-2 (
   put-decimal-below t,
   put-decimal.Post,
 ) (put-decimal-at t) put-decimal.Post
-put-decimal-returns-2 t c = search needs
+put-decimal-returns-2 t c =
+    let p = c .before .before in
+    let b = p .before .before .before .before in
+    rw (decimal-more (b .args .n) (search needs) (p .before .before .if1 .left)) (puts-one _ (p .put-decimal .ensures))
 
 pub +put-decimal-spec : {M : Type 1} → statement M
 +put-decimal-spec = close μ-put-decimal λ t. put-decimal-lts.spec (

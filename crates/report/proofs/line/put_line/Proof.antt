@@ -1,0 +1,162 @@
+use borrow.Author.Needs.{needs}
+use Rattle.report.proofs.line.put_line.Statement.{statement}
+use Rattle.report.proofs.line.put_line.Tie as tie
+use Rattle.report.proofs.line.put_line.Reads as reads
+use Rattle.report.proofs.line.put_line.Lts as lts
+use Rattle.report.proofs.line.put_error.Reads as put-error-reads
+use Rattle.report.proofs.line.put_message.Reads as put-message-reads
+
+-- src/line.rt:60:25
+enum-told : tie.Need-enum-told
+enum-told c = search needs
+
+-- src/line.rt:61:26
+enum-known-event : tie.Need-enum-known-event
+enum-known-event c = search needs
+
+-- src/line.rt:61:44
+put-message-requires : tie.Need-put-message-requires
+put-message-requires c κs = search needs
+
+-- src/line.rt:62:42
+enum-told-2 : tie.Need-enum-told-2
+enum-told-2 c = search needs
+
+-- src/line.rt:62:32
+put-error-requires : tie.Need-put-error-requires
+put-error-requires c κs = search needs
+
+-- src/line.rt:63:41
+enum-told-3 : tie.Need-enum-told-3
+enum-told-3 c = search needs
+
+-- src/line.rt:63:31
+put-error-requires-2 : tie.Need-put-error-requires-2
+put-error-requires-2 c κs = search needs
+
+-- src/line.rt:64:71
+enum-told-4 : tie.Need-enum-told-4
+enum-told-4 c = search needs
+
+-- src/line.rt:64:61
+put-error-requires-3 : tie.Need-put-error-requires-3
+put-error-requires-3 c κs = search needs
+
+-- src/line.rt:65:42
+enum-told-5 : tie.Need-enum-told-5
+enum-told-5 c = search needs
+
+-- src/line.rt:65:32
+put-error-requires-4 : tie.Need-put-error-requires-4
+put-error-requires-4 c κs = search needs
+
+-- src/line.rt:66:37
+enum-told-6 : tie.Need-enum-told-6
+enum-told-6 c = search needs
+
+-- src/line.rt:66:27
+put-error-requires-5 : tie.Need-put-error-requires-5
+put-error-requires-5 c κs = search needs
+
+-- src/line.rt:67:24
+enum-known-event-2 : tie.Need-enum-known-event-2
+enum-known-event-2 c = search needs
+
+-- src/line.rt:67:35
+put-error-requires-6 : tie.Need-put-error-requires-6
+put-error-requires-6 c κs = search needs
+
+-- src/line.rt:55:1
+returns : tie.Need-returns
+returns c = search needs
+
+-- src/line.rt:55:1
+same-length : tie.Need-same-length
+same-length c = search needs
+
+-- src/line.rt:55:1
+returns-2 : tie.Need-returns-2
+returns-2 c = search needs
+
+-- src/line.rt:55:1
+same-length-2 : tie.Need-same-length-2
+same-length-2 c = search needs
+
+-- src/line.rt:55:1
+returns-3 : tie.Need-returns-3
+returns-3 c = search needs
+
+-- src/line.rt:55:1
+same-length-3 : tie.Need-same-length-3
+same-length-3 c = search needs
+
+-- src/line.rt:55:1
+returns-4 : tie.Need-returns-4
+returns-4 c = search needs
+
+-- src/line.rt:55:1
+same-length-4 : tie.Need-same-length-4
+same-length-4 c = search needs
+
+-- src/line.rt:55:1
+returns-5 : tie.Need-returns-5
+returns-5 c = search needs
+
+-- src/line.rt:55:1
+same-length-5 : tie.Need-same-length-5
+same-length-5 c = search needs
+
+-- src/line.rt:55:1
+returns-6 : tie.Need-returns-6
+returns-6 c = search needs
+
+-- src/line.rt:55:1
+same-length-6 : tie.Need-same-length-6
+same-length-6 c = search needs
+
+-- src/line.rt:55:1
+returns-7 : tie.Need-returns-7
+returns-7 c = search needs
+
+-- src/line.rt:55:1
+same-length-7 : tie.Need-same-length-7
+same-length-7 c = search needs
+
+-- src/line.rt:55:1
+returns-8 : tie.Need-returns-8
+returns-8 c = search needs
+
+pub put-line-spec : {M : Type 1} → statement M
+put-line-spec =
+    tie.close
+    (tie.spec
+    enum-told
+    enum-known-event
+    put-message-requires
+    enum-told-2
+    put-error-requires
+    enum-told-3
+    put-error-requires-2
+    enum-told-4
+    put-error-requires-3
+    enum-told-5
+    put-error-requires-4
+    enum-told-6
+    put-error-requires-5
+    enum-known-event-2
+    put-error-requires-6
+    returns
+    same-length
+    returns-2
+    same-length-2
+    returns-3
+    same-length-3
+    returns-4
+    same-length-4
+    returns-5
+    same-length-5
+    returns-6
+    same-length-6
+    returns-7
+    same-length-7
+    returns-8)

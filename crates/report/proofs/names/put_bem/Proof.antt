@@ -1,0 +1,84 @@
+use borrow.Author.Needs.{needs}
+use Rattle.report.proofs.names.put_bem.Statement.{statement}
+use Rattle.report.proofs.names.put_bem.Tie as tie
+use Rattle.report.proofs.names.put_bem.Reads as reads
+use Rattle.report.proofs.names.put_bem.Lts as lts
+use Rattle.report.proofs.names.is_bem.Reads as is-bem-reads
+use Rattle.report.proofs.names.name_number.Reads as name-number-reads
+use Rattle.report.proofs.names.put_name.Reads as put-name-reads
+use Rattle.report.proofs.text.put_bytes.Reads as put-bytes-reads
+
+-- src/names.rt:78:35
+slice-aggregate-put-bytes : tie.Need-slice-aggregate-put-bytes
+slice-aggregate-put-bytes c = search needs
+
+-- src/names.rt:78:9
+put-bytes-requires : tie.Need-put-bytes-requires
+put-bytes-requires c κs = search needs
+
+-- src/names.rt:78:9
+same-length : tie.Need-same-length
+same-length c = search needs
+
+-- src/names.rt:78:9
+returns : tie.Need-returns
+returns c = search needs
+
+-- src/names.rt:80:8
+is-bem-requires : tie.Need-is-bem-requires
+is-bem-requires c κs = search needs
+
+-- src/names.rt:81:39
+shared-slice-read-name-number : tie.Need-shared-slice-read-name-number
+shared-slice-read-name-number c = search needs
+
+-- src/names.rt:81:27
+name-number-requires : tie.Need-name-number-requires
+name-number-requires c κs = search needs
+
+-- src/names.rt:81:9
+put-name-requires : tie.Need-put-name-requires
+put-name-requires c κs = search needs
+
+-- src/names.rt:83:28
+slice-aggregate-put-bytes-2 : tie.Need-slice-aggregate-put-bytes-2
+slice-aggregate-put-bytes-2 c = search needs
+
+-- src/names.rt:83:9
+put-bytes-requires-2 : tie.Need-put-bytes-requires-2
+put-bytes-requires-2 c κs = search needs
+
+-- src/names.rt:73:1
+same-length-2 : tie.Need-same-length-2
+same-length-2 c = search needs
+
+-- src/names.rt:73:1
+returns-2 : tie.Need-returns-2
+returns-2 c = search needs
+
+-- src/names.rt:73:1
+same-length-3 : tie.Need-same-length-3
+same-length-3 c = search needs
+
+-- src/names.rt:73:1
+returns-3 : tie.Need-returns-3
+returns-3 c = search needs
+
+pub put-bem-spec : {M : Type 1} → statement M
+put-bem-spec =
+    tie.close
+    (tie.spec
+    slice-aggregate-put-bytes
+    put-bytes-requires
+    same-length
+    returns
+    is-bem-requires
+    shared-slice-read-name-number
+    name-number-requires
+    put-name-requires
+    slice-aggregate-put-bytes-2
+    put-bytes-requires-2
+    same-length-2
+    returns-2
+    same-length-3
+    returns-3)
