@@ -49,3 +49,7 @@ puts-first l i b = record { stored = refl; after = refl }
 -- two bytes
 pub puts-two : (l : List ℕ) (i b c : ℕ) → Puts l i (b ∷ c ∷ []) (set (set l i b) (i + 1) c) (i + 2)
 puts-two l i b c = record { stored = rw (add-one i); after = refl }
+
+-- the same text, named otherwise
+pub puts-text : {l o : List ℕ} {i n : ℕ} {xs ys : List ℕ} → xs ≡ ys → Puts l i xs o n → Puts l i ys o n
+puts-text {l} {o} {i} {n} {xs} {ys} e a = rw (sym e) a

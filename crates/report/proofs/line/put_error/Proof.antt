@@ -1,3 +1,9 @@
+use native.Mathlib.Omega.{arith}
+use Rattle.report.specs.Text.{asciiFrom, ascii, decimal}
+use Rattle.report.specs.TextLaws.{decimal-length}
+use Rattle.report.specs.Line.{errorLine}
+use Rattle.report.specs.LineLaws.{head-length}
+use Rattle.report.specs.Puts.{puts-then, puts-both, puts-length}
 use borrow.Author.Needs.{needs}
 use Rattle.report.proofs.line.put_error.Statement.{statement}
 use Rattle.report.proofs.line.put_error.Tie as tie
@@ -17,7 +23,10 @@ slice-aggregate-put-number c = search needs
 
 -- src/line.rt:50:5
 put-number-requires : tie.Need-put-number-requires
-put-number-requires c κs = search needs
+put-number-requires c κs =
+    let h = c .before .before .before .before in
+    let a = h .before .before .before .args in
+    omega (arith, h .put-head .ensures .after, puts-length (h .put-head .ensures), head-length (a .n) (a .at), decimal-length (a .number))
 
 -- src/line.rt:51:26
 slice-aggregate-put-bytes : tie.Need-slice-aggregate-put-bytes
@@ -25,7 +34,11 @@ slice-aggregate-put-bytes c = search needs
 
 -- src/line.rt:51:5
 put-bytes-requires : tie.Need-put-bytes-requires
-put-bytes-requires c κs = search needs
+put-bytes-requires c κs =
+    let m = c .before .before .before .before in
+    let h = m .before .before .before .before .before in
+    let a = h .before .before .before .args in
+    omega (arith, h .put-head .ensures .after, puts-length (h .put-head .ensures), m .put-number .ensures .after, puts-length (m .put-number .ensures), head-length (a .n) (a .at), decimal-length (a .number))
 
 -- src/line.rt:45:1
 same-length : tie.Need-same-length
@@ -33,7 +46,13 @@ same-length c = search needs
 
 -- src/line.rt:45:1
 returns : tie.Need-returns
-returns c = search needs
+unfolding errorLine asciiFrom
+returns c =
+    let l = c .before .before in
+    let m = l .before .before .before .before .before in
+    let h = m .before .before .before .before .before in
+    let a = h .before .before .before .args in
+    puts-then (puts-both (ascii " kind=err no=") (decimal (a .number)) (h .put-head .ensures) (m .put-number .ensures)) (l .put-bytes .ensures)
 
 pub put-error-spec : {M : Type 1} → statement M
 put-error-spec =

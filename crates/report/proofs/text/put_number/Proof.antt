@@ -1,3 +1,4 @@
+use Rattle.report.specs.Puts.{puts-then}
 use borrow.Author.Needs.{needs}
 use Rattle.report.proofs.text.put_number.Statement.{statement}
 use Rattle.report.proofs.text.put_number.Tie as tie
@@ -20,7 +21,9 @@ same-length c = search needs
 
 -- src/text.rt:39:1
 returns : tie.Need-returns
-returns c = search needs
+returns c =
+    let d = c .before .before in
+    puts-then (d .before .before .before .before .put-bytes .ensures) (d .put-decimal .ensures)
 
 pub put-number-spec : {M : Type 1} → statement M
 put-number-spec = tie.close (tie.spec put-bytes-requires put-decimal-requires same-length returns)
