@@ -1,3 +1,5 @@
+use mathlib.Core.Path.{sym}
+use Rattle.report.specs.LineLaws.{lined-7, lined-by}
 use borrow.Author.Needs.{needs}
 use Rattle.report.proofs.line.event_line.Statement.{statement}
 use Rattle.report.proofs.line.event_line.Tie as tie
@@ -7,7 +9,7 @@ use Rattle.report.proofs.line.put_line.Reads as put-line-reads
 
 -- src/line.rt:76:9
 returns : tie.Need-returns
-returns c = search needs
+returns c = sym (lined-7 _ _ _ _ _ (c .if1 .taken))
 
 -- src/line.rt:78:19
 put-line-requires : tie.Need-put-line-requires
@@ -19,7 +21,9 @@ same-length c = search needs
 
 -- src/line.rt:72:1
 returns-2 : tie.Need-returns-2
-returns-2 c = search needs
+returns-2 c =
+    let p = c .before .before in
+    lined-by _ _ _ _ _ (p .before .before .if1 .left) (p .put-line .ensures)
 
 pub event-line-spec : {M : Type 1} → statement M
 event-line-spec = tie.close (tie.spec returns put-line-requires same-length returns-2)

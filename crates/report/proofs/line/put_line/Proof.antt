@@ -1,3 +1,8 @@
+use mathlib.Core.Path.{ap, sym}
+use Rattle.framing.specs.declared.Event.{Event}
+use Rattle.framing.specs.Decode.{outcomeOf}
+use Rattle.report.specs.Line.{lineOf}
+use Rattle.report.specs.Puts.{puts-text, puts-none}
 use borrow.Author.Needs.{needs}
 use Rattle.report.proofs.line.put_line.Statement.{statement}
 use Rattle.report.proofs.line.put_line.Tie as tie
@@ -68,7 +73,8 @@ put-error-requires-6 c κs = search needs
 
 -- src/line.rt:55:1
 returns : tie.Need-returns
-returns c = search needs
+unfolding lineOf
+returns c = puts-text (sym (ap (λ (e : Event). lineOf _ _ (outcomeOf e) _) (c .enum-told .given .1))) (puts-none _ _)
 
 -- src/line.rt:55:1
 same-length : tie.Need-same-length
@@ -76,7 +82,10 @@ same-length c = search needs
 
 -- src/line.rt:55:1
 returns-2 : tie.Need-returns-2
-returns-2 c = search needs
+unfolding lineOf
+returns-2 c =
+    let p = c .before .before in
+    puts-text (sym (ap (λ (e : Event). lineOf _ _ (outcomeOf e) _) (p .before .before .before .event .given .1))) (p .put-message .ensures)
 
 -- src/line.rt:55:1
 same-length-2 : tie.Need-same-length-2
@@ -84,7 +93,10 @@ same-length-2 c = search needs
 
 -- src/line.rt:55:1
 returns-3 : tie.Need-returns-3
-returns-3 c = search needs
+unfolding lineOf
+returns-3 c =
+    let p = c .before .before in
+    puts-text (sym (ap (λ (e : Event). lineOf _ _ (outcomeOf e) _) (p .before .before .enum-told2 .given .1))) (p .put-error .ensures)
 
 -- src/line.rt:55:1
 same-length-3 : tie.Need-same-length-3
@@ -92,7 +104,10 @@ same-length-3 c = search needs
 
 -- src/line.rt:55:1
 returns-4 : tie.Need-returns-4
-returns-4 c = search needs
+unfolding lineOf
+returns-4 c =
+    let p = c .before .before in
+    puts-text (sym (ap (λ (e : Event). lineOf _ _ (outcomeOf e) _) (p .before .before .enum-told3 .given .1))) (p .put-error2 .ensures)
 
 -- src/line.rt:55:1
 same-length-4 : tie.Need-same-length-4
@@ -100,7 +115,10 @@ same-length-4 c = search needs
 
 -- src/line.rt:55:1
 returns-5 : tie.Need-returns-5
-returns-5 c = search needs
+unfolding lineOf
+returns-5 c =
+    let p = c .before .before in
+    puts-text (sym (ap (λ (e : Event). lineOf _ _ (outcomeOf e) _) (p .before .before .enum-told4 .given .1))) (p .put-error3 .ensures)
 
 -- src/line.rt:55:1
 same-length-5 : tie.Need-same-length-5
@@ -108,7 +126,10 @@ same-length-5 c = search needs
 
 -- src/line.rt:55:1
 returns-6 : tie.Need-returns-6
-returns-6 c = search needs
+unfolding lineOf
+returns-6 c =
+    let p = c .before .before in
+    puts-text (sym (ap (λ (e : Event). lineOf _ _ (outcomeOf e) _) (p .before .before .enum-told5 .given .1))) (p .put-error4 .ensures)
 
 -- src/line.rt:55:1
 same-length-6 : tie.Need-same-length-6
@@ -116,7 +137,10 @@ same-length-6 c = search needs
 
 -- src/line.rt:55:1
 returns-7 : tie.Need-returns-7
-returns-7 c = search needs
+unfolding lineOf
+returns-7 c =
+    let p = c .before .before in
+    puts-text (sym (ap (λ (e : Event). lineOf _ _ (outcomeOf e) _) (p .before .before .enum-told6 .given .1))) (p .put-error5 .ensures)
 
 -- src/line.rt:55:1
 same-length-7 : tie.Need-same-length-7
@@ -124,7 +148,10 @@ same-length-7 c = search needs
 
 -- src/line.rt:55:1
 returns-8 : tie.Need-returns-8
-returns-8 c = search needs
+unfolding lineOf
+returns-8 c =
+    let p = c .before .before in
+    puts-text (sym (ap (λ (e : Event). lineOf _ _ (outcomeOf e) _) (p .before .before .before .event2 .given .1))) (p .put-error6 .ensures)
 
 pub put-line-spec : {M : Type 1} → statement M
 put-line-spec =

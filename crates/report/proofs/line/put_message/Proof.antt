@@ -1,3 +1,9 @@
+use native.Mathlib.Omega.{arith}
+use Rattle.report.specs.Text.{asciiFrom, ascii, decimal, hex2}
+use Rattle.report.specs.TextLaws.{decimal-length}
+use Rattle.report.specs.Line.{messageLine}
+use Rattle.report.specs.LineLaws.{head-length, bem-length}
+use Rattle.report.specs.Puts.{puts-then, puts-both, puts-length}
 use borrow.Author.Needs.{needs}
 use Rattle.report.proofs.line.put_message.Statement.{statement}
 use Rattle.report.proofs.line.put_message.Tie as tie
@@ -19,11 +25,20 @@ slice-aggregate-put-bytes c = search needs
 
 -- src/line.rt:37:5
 put-bytes-requires : tie.Need-put-bytes-requires
-put-bytes-requires c κs = search needs
+unfolding hex2
+put-bytes-requires c κs =
+    let head = c .before .before .before .before in
+    let a = head .before .before .before .before .args in
+    omega (arith, head .put-head .ensures .after, puts-length (head .put-head .ensures), head-length (a .n) (a .at), decimal-length (a .len), bem-length (a .command) (a .payload .now))
 
 -- src/line.rt:38:5
 put-hex-requires : tie.Need-put-hex-requires
-put-hex-requires c κs = search needs
+unfolding hex2
+put-hex-requires c κs =
+    let kind = c .before .before .before in
+    let head = kind .before .before .before .before .before in
+    let a = head .before .before .before .before .args in
+    omega (arith, head .put-head .ensures .after, puts-length (head .put-head .ensures), kind .put-bytes .ensures .after, puts-length (kind .put-bytes .ensures), head-length (a .n) (a .at), decimal-length (a .len), bem-length (a .command) (a .payload .now))
 
 -- src/line.rt:39:34
 slice-aggregate-put-number : tie.Need-slice-aggregate-put-number
@@ -31,7 +46,13 @@ slice-aggregate-put-number c = search needs
 
 -- src/line.rt:39:5
 put-number-requires : tie.Need-put-number-requires
-put-number-requires c κs = search needs
+unfolding hex2
+put-number-requires c κs =
+    let hex = c .before .before .before .before in
+    let kind = hex .before .before .before .before in
+    let head = kind .before .before .before .before .before in
+    let a = head .before .before .before .before .args in
+    omega (arith, head .put-head .ensures .after, puts-length (head .put-head .ensures), kind .put-bytes .ensures .after, puts-length (kind .put-bytes .ensures), hex .put-hex .ensures .after, puts-length (hex .put-hex .ensures), head-length (a .n) (a .at), decimal-length (a .len), bem-length (a .command) (a .payload .now))
 
 -- src/line.rt:40:33
 slice-aggregate-put-bytes-2 : tie.Need-slice-aggregate-put-bytes-2
@@ -39,11 +60,26 @@ slice-aggregate-put-bytes-2 c = search needs
 
 -- src/line.rt:40:5
 put-bytes-requires-2 : tie.Need-put-bytes-requires-2
-put-bytes-requires-2 c κs = search needs
+unfolding hex2
+put-bytes-requires-2 c κs =
+    let len = c .before .before .before .before in
+    let hex = len .before .before .before .before .before in
+    let kind = hex .before .before .before .before in
+    let head = kind .before .before .before .before .before in
+    let a = head .before .before .before .before .args in
+    omega (arith, head .put-head .ensures .after, puts-length (head .put-head .ensures), kind .put-bytes .ensures .after, puts-length (kind .put-bytes .ensures), hex .put-hex .ensures .after, puts-length (hex .put-hex .ensures), len .put-number .ensures .after, puts-length (len .put-number .ensures), head-length (a .n) (a .at), decimal-length (a .len), bem-length (a .command) (a .payload .now))
 
 -- src/line.rt:41:5
 put-bem-requires : tie.Need-put-bem-requires
-put-bem-requires c κs = search needs
+unfolding hex2
+put-bem-requires c κs =
+    let key = c .before .before .before in
+    let len = key .before .before .before .before .before in
+    let hex = len .before .before .before .before .before in
+    let kind = hex .before .before .before .before in
+    let head = kind .before .before .before .before .before in
+    let a = head .before .before .before .before .args in
+    omega (arith, head .put-head .ensures .after, puts-length (head .put-head .ensures), kind .put-bytes .ensures .after, puts-length (kind .put-bytes .ensures), hex .put-hex .ensures .after, puts-length (hex .put-hex .ensures), len .put-number .ensures .after, puts-length (len .put-number .ensures), key .put-bytes2 .ensures .after, puts-length (key .put-bytes2 .ensures), head-length (a .n) (a .at), decimal-length (a .len), bem-length (a .command) (a .payload .now))
 
 -- src/line.rt:42:26
 slice-aggregate-put-bytes-3 : tie.Need-slice-aggregate-put-bytes-3
@@ -51,7 +87,16 @@ slice-aggregate-put-bytes-3 c = search needs
 
 -- src/line.rt:42:5
 put-bytes-requires-3 : tie.Need-put-bytes-requires-3
-put-bytes-requires-3 c κs = search needs
+unfolding hex2
+put-bytes-requires-3 c κs =
+    let bem = c .before .before .before .before in
+    let key = bem .before .before .before .before in
+    let len = key .before .before .before .before .before in
+    let hex = len .before .before .before .before .before in
+    let kind = hex .before .before .before .before in
+    let head = kind .before .before .before .before .before in
+    let a = head .before .before .before .before .args in
+    omega (arith, head .put-head .ensures .after, puts-length (head .put-head .ensures), kind .put-bytes .ensures .after, puts-length (kind .put-bytes .ensures), hex .put-hex .ensures .after, puts-length (hex .put-hex .ensures), len .put-number .ensures .after, puts-length (len .put-number .ensures), key .put-bytes2 .ensures .after, puts-length (key .put-bytes2 .ensures), bem .put-bem .ensures .after, puts-length (bem .put-bem .ensures), head-length (a .n) (a .at), decimal-length (a .len), bem-length (a .command) (a .payload .now))
 
 -- src/line.rt:32:1
 same-length : tie.Need-same-length
@@ -59,7 +104,19 @@ same-length c = search needs
 
 -- src/line.rt:32:1
 returns : tie.Need-returns
-returns c = search needs
+unfolding messageLine asciiFrom
+returns c =
+    let end = c .before .before in
+    let bem = end .before .before .before .before .before in
+    let key = bem .before .before .before .before in
+    let len = key .before .before .before .before .before in
+    let hex = len .before .before .before .before .before in
+    let kind = hex .before .before .before .before in
+    let head = kind .before .before .before .before .before in
+    let a = head .before .before .before .before .args in
+    let to-hex = puts-then (puts-then (head .put-head .ensures) (kind .put-bytes .ensures)) (hex .put-hex .ensures) in
+    let to-len = puts-both (ascii " len=") (decimal (a .len)) to-hex (len .put-number .ensures) in
+    puts-then (puts-then (puts-then to-len (key .put-bytes2 .ensures)) (bem .put-bem .ensures)) (end .put-bytes3 .ensures)
 
 pub put-message-spec : {M : Type 1} → statement M
 put-message-spec =

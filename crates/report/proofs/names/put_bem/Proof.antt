@@ -1,3 +1,8 @@
+use mathlib.Core.Path.{ap, sym, _∙_}
+use Rattle.report.specs.Text.{asciiFrom}
+use Rattle.report.specs.Line.{nameText}
+use Rattle.report.specs.LineLaws.{bem-empty, bem-named, bem-none}
+use Rattle.report.specs.Puts.{puts-text}
 use borrow.Author.Needs.{needs}
 use Rattle.report.proofs.names.put_bem.Statement.{statement}
 use Rattle.report.proofs.names.put_bem.Tie as tie
@@ -22,7 +27,10 @@ same-length c = search needs
 
 -- src/names.rt:78:9
 returns : tie.Need-returns
-returns c = search needs
+unfolding asciiFrom
+returns c =
+    let p = c .before .before in
+    puts-text (sym (bem-empty _ _ (p .before .before .before .if1 .taken))) (p .put-bytes .ensures)
 
 -- src/names.rt:80:8
 is-bem-requires : tie.Need-is-bem-requires
@@ -54,7 +62,12 @@ same-length-2 c = search needs
 
 -- src/names.rt:73:1
 returns-2 : tie.Need-returns-2
-returns-2 c = search needs
+returns-2 c =
+    let p = c .before .before in
+    let n = p .before in
+    let t = n .before .before .before in
+    let b = t .before in
+    puts-text (ap nameText (n .name-number .ensures) ∙ sym (bem-named _ _ (b .before .if1 .left) (sym (b .is-bem .ensures) ∙ t .if2 .taken))) (p .put-name .ensures)
 
 -- src/names.rt:73:1
 same-length-3 : tie.Need-same-length-3
@@ -62,7 +75,12 @@ same-length-3 c = search needs
 
 -- src/names.rt:73:1
 returns-3 : tie.Need-returns-3
-returns-3 c = search needs
+unfolding asciiFrom
+returns-3 c =
+    let p = c .before .before in
+    let t = p .before .before .before in
+    let b = t .before in
+    puts-text (sym (bem-none _ _ (b .before .if1 .left) (sym (b .is-bem .ensures) ∙ t .if2 .left))) (p .put-bytes2 .ensures)
 
 pub put-bem-spec : {M : Type 1} → statement M
 put-bem-spec =

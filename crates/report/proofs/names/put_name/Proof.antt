@@ -1,3 +1,8 @@
+use mathlib.Core.Path.{ap, sym}
+use Rattle.report.specs.Text.{asciiFrom}
+use Rattle.report.specs.Line.{nameText}
+use Rattle.report.specs.LineLaws.{name-other}
+use Rattle.report.specs.Puts.{puts-text}
 use borrow.Author.Needs.{needs}
 use Rattle.report.proofs.names.put_name.Statement.{statement}
 use Rattle.report.proofs.names.put_name.Tie as tie
@@ -99,7 +104,10 @@ same-length c = search needs
 
 -- src/names.rt:46:1
 returns : tie.Need-returns
-returns c = search needs
+unfolding nameText asciiFrom
+returns c =
+    let p = c .before .before in
+    puts-text (sym (ap nameText (p .before .before .before .match .keys1))) (p .put-bytes .ensures)
 
 -- src/names.rt:46:1
 same-length-2 : tie.Need-same-length-2
@@ -107,7 +115,10 @@ same-length-2 c = search needs
 
 -- src/names.rt:46:1
 returns-2 : tie.Need-returns-2
-returns-2 c = search needs
+unfolding nameText asciiFrom
+returns-2 c =
+    let p = c .before .before in
+    puts-text (sym (ap nameText (p .before .before .before .match .keys2))) (p .put-bytes2 .ensures)
 
 -- src/names.rt:46:1
 same-length-3 : tie.Need-same-length-3
@@ -115,7 +126,10 @@ same-length-3 c = search needs
 
 -- src/names.rt:46:1
 returns-3 : tie.Need-returns-3
-returns-3 c = search needs
+unfolding nameText asciiFrom
+returns-3 c =
+    let p = c .before .before in
+    puts-text (sym (ap nameText (p .before .before .before .match .keys3))) (p .put-bytes3 .ensures)
 
 -- src/names.rt:46:1
 same-length-4 : tie.Need-same-length-4
@@ -123,7 +137,10 @@ same-length-4 c = search needs
 
 -- src/names.rt:46:1
 returns-4 : tie.Need-returns-4
-returns-4 c = search needs
+unfolding nameText asciiFrom
+returns-4 c =
+    let p = c .before .before in
+    puts-text (sym (ap nameText (p .before .before .before .match .keys4))) (p .put-bytes4 .ensures)
 
 -- src/names.rt:46:1
 same-length-5 : tie.Need-same-length-5
@@ -131,7 +148,10 @@ same-length-5 c = search needs
 
 -- src/names.rt:46:1
 returns-5 : tie.Need-returns-5
-returns-5 c = search needs
+unfolding nameText asciiFrom
+returns-5 c =
+    let p = c .before .before in
+    puts-text (sym (ap nameText (p .before .before .before .match .keys5))) (p .put-bytes5 .ensures)
 
 -- src/names.rt:46:1
 same-length-6 : tie.Need-same-length-6
@@ -139,7 +159,10 @@ same-length-6 c = search needs
 
 -- src/names.rt:46:1
 returns-6 : tie.Need-returns-6
-returns-6 c = search needs
+unfolding nameText asciiFrom
+returns-6 c =
+    let p = c .before .before in
+    puts-text (sym (ap nameText (p .before .before .before .match .keys6))) (p .put-bytes6 .ensures)
 
 -- src/names.rt:46:1
 same-length-7 : tie.Need-same-length-7
@@ -147,7 +170,10 @@ same-length-7 c = search needs
 
 -- src/names.rt:46:1
 returns-7 : tie.Need-returns-7
-returns-7 c = search needs
+unfolding nameText asciiFrom
+returns-7 c =
+    let p = c .before .before in
+    puts-text (sym (ap nameText (p .before .before .before .match .keys7))) (p .put-bytes7 .ensures)
 
 -- src/names.rt:46:1
 same-length-8 : tie.Need-same-length-8
@@ -155,7 +181,10 @@ same-length-8 c = search needs
 
 -- src/names.rt:46:1
 returns-8 : tie.Need-returns-8
-returns-8 c = search needs
+unfolding nameText asciiFrom
+returns-8 c =
+    let p = c .before .before in
+    puts-text (sym (ap nameText (p .before .before .before .match .keys8))) (p .put-bytes8 .ensures)
 
 -- src/names.rt:46:1
 same-length-9 : tie.Need-same-length-9
@@ -163,7 +192,10 @@ same-length-9 c = search needs
 
 -- src/names.rt:46:1
 returns-9 : tie.Need-returns-9
-returns-9 c = search needs
+unfolding nameText asciiFrom
+returns-9 c =
+    let p = c .before .before in
+    puts-text (sym (ap nameText (p .before .before .before .match .keys9))) (p .put-bytes9 .ensures)
 
 -- src/names.rt:46:1
 same-length-10 : tie.Need-same-length-10
@@ -171,7 +203,10 @@ same-length-10 c = search needs
 
 -- src/names.rt:46:1
 returns-10 : tie.Need-returns-10
-returns-10 c = search needs
+unfolding nameText asciiFrom
+returns-10 c =
+    let p = c .before .before in
+    puts-text (sym (ap nameText (p .before .before .before .match .keys10))) (p .put-bytes10 .ensures)
 
 -- src/names.rt:46:1
 same-length-11 : tie.Need-same-length-11
@@ -179,7 +214,11 @@ same-length-11 c = search needs
 
 -- src/names.rt:46:1
 returns-11 : tie.Need-returns-11
-returns-11 c = search needs
+unfolding asciiFrom
+returns-11 c =
+    let p = c .before .before in
+    let m = p .before .before .before .match .rest in
+    puts-text (sym (name-other _ (m .0 .0 .0 .0 .0 .0 .0 .0 .0 .1) (m .0 .0 .0 .0 .0 .0 .0 .0 .1) (m .0 .0 .0 .0 .0 .0 .0 .1) (m .0 .0 .0 .0 .0 .0 .1) (m .0 .0 .0 .0 .0 .1) (m .0 .0 .0 .0 .1) (m .0 .0 .0 .1) (m .0 .0 .1) (m .0 .1) (m .1))) (p .put-bytes11 .ensures)
 
 pub put-name-spec : {M : Type 1} → statement M
 put-name-spec =
