@@ -1,4 +1,6 @@
-use mathlib.Core.Path.{ap, sym}
+use Prim.Native.Nat.{ℕ}
+use mathlib.Core.List.{List}
+use mathlib.Core.Path.{_≡_}
 use Rattle.framing.specs.declared.Event.{Event}
 use Rattle.framing.specs.Decode.{outcomeOf}
 use Rattle.report.specs.Line.{lineOf}
@@ -11,7 +13,10 @@ use Rattle.report.proofs.line.put_line.Lts as lts
 use Rattle.report.proofs.line.put_error.Reads as put-error-reads
 use Rattle.report.proofs.line.put_message.Reads as put-message-reads
 
--- src/line.rt:60:25
+-- the line of an event that is known
+by-event : (n at : ℕ) (payload : List ℕ) {d e : Event} → d ≡ e → lineOf n at (outcomeOf e) payload ≡ lineOf n at (outcomeOf d) payload
+by-event n at payload {d} {e} h = rw h
+
 enum-told : tie.Need-enum-told
 enum-told c = search needs
 
@@ -74,7 +79,9 @@ put-error-requires-6 c κs = search needs
 -- src/line.rt:55:1
 returns : tie.Need-returns
 unfolding lineOf
-returns c = puts-text (sym (ap (λ (e : Event). lineOf _ _ (outcomeOf e) _) (c .enum-told .given .1))) (puts-none _ _)
+returns c =
+    let a = c .before .before .before .before .args in
+    puts-text (by-event (a .n) (a .at) (a .payload .now) (c .enum-told .given .1)) (puts-none _ _)
 
 -- src/line.rt:55:1
 same-length : tie.Need-same-length
@@ -85,7 +92,9 @@ returns-2 : tie.Need-returns-2
 unfolding lineOf
 returns-2 c =
     let p = c .before .before in
-    puts-text (sym (ap (λ (e : Event). lineOf _ _ (outcomeOf e) _) (p .before .before .before .event .given .1))) (p .put-message .ensures)
+    let e = p .before .before .before in
+    let a = e .before .before .before .before .args in
+    puts-text (by-event (a .n) (a .at) (a .payload .now) (e .event .given .1)) (p .put-message .ensures)
 
 -- src/line.rt:55:1
 same-length-2 : tie.Need-same-length-2
@@ -96,7 +105,9 @@ returns-3 : tie.Need-returns-3
 unfolding lineOf
 returns-3 c =
     let p = c .before .before in
-    puts-text (sym (ap (λ (e : Event). lineOf _ _ (outcomeOf e) _) (p .before .before .enum-told2 .given .1))) (p .put-error .ensures)
+    let e = p .before .before in
+    let a = e .before .before .before .before .args in
+    puts-text (by-event (a .n) (a .at) (a .payload .now) (e .enum-told2 .given .1)) (p .put-error .ensures)
 
 -- src/line.rt:55:1
 same-length-3 : tie.Need-same-length-3
@@ -107,7 +118,9 @@ returns-4 : tie.Need-returns-4
 unfolding lineOf
 returns-4 c =
     let p = c .before .before in
-    puts-text (sym (ap (λ (e : Event). lineOf _ _ (outcomeOf e) _) (p .before .before .enum-told3 .given .1))) (p .put-error2 .ensures)
+    let e = p .before .before in
+    let a = e .before .before .before .before .args in
+    puts-text (by-event (a .n) (a .at) (a .payload .now) (e .enum-told3 .given .1)) (p .put-error2 .ensures)
 
 -- src/line.rt:55:1
 same-length-4 : tie.Need-same-length-4
@@ -118,7 +131,9 @@ returns-5 : tie.Need-returns-5
 unfolding lineOf
 returns-5 c =
     let p = c .before .before in
-    puts-text (sym (ap (λ (e : Event). lineOf _ _ (outcomeOf e) _) (p .before .before .enum-told4 .given .1))) (p .put-error3 .ensures)
+    let e = p .before .before in
+    let a = e .before .before .before .before .args in
+    puts-text (by-event (a .n) (a .at) (a .payload .now) (e .enum-told4 .given .1)) (p .put-error3 .ensures)
 
 -- src/line.rt:55:1
 same-length-5 : tie.Need-same-length-5
@@ -129,7 +144,9 @@ returns-6 : tie.Need-returns-6
 unfolding lineOf
 returns-6 c =
     let p = c .before .before in
-    puts-text (sym (ap (λ (e : Event). lineOf _ _ (outcomeOf e) _) (p .before .before .enum-told5 .given .1))) (p .put-error4 .ensures)
+    let e = p .before .before in
+    let a = e .before .before .before .before .args in
+    puts-text (by-event (a .n) (a .at) (a .payload .now) (e .enum-told5 .given .1)) (p .put-error4 .ensures)
 
 -- src/line.rt:55:1
 same-length-6 : tie.Need-same-length-6
@@ -140,7 +157,9 @@ returns-7 : tie.Need-returns-7
 unfolding lineOf
 returns-7 c =
     let p = c .before .before in
-    puts-text (sym (ap (λ (e : Event). lineOf _ _ (outcomeOf e) _) (p .before .before .enum-told6 .given .1))) (p .put-error5 .ensures)
+    let e = p .before .before in
+    let a = e .before .before .before .before .args in
+    puts-text (by-event (a .n) (a .at) (a .payload .now) (e .enum-told6 .given .1)) (p .put-error5 .ensures)
 
 -- src/line.rt:55:1
 same-length-7 : tie.Need-same-length-7
@@ -151,7 +170,9 @@ returns-8 : tie.Need-returns-8
 unfolding lineOf
 returns-8 c =
     let p = c .before .before in
-    puts-text (sym (ap (λ (e : Event). lineOf _ _ (outcomeOf e) _) (p .before .before .before .event2 .given .1))) (p .put-error6 .ensures)
+    let e = p .before .before .before in
+    let a = e .before .before .before .before .args in
+    puts-text (by-event (a .n) (a .at) (a .payload .now) (e .event2 .given .1)) (p .put-error6 .ensures)
 
 pub put-line-spec : {M : Type 1} → statement M
 put-line-spec =
