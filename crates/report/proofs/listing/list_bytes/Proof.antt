@@ -1,3 +1,16 @@
+use native.Mathlib.Omega.{arith}
+use mathlib.Core.Bool.{false}
+use mathlib.Core.List.{[], _∷_}
+use mathlib.Core.Logic.{⊎-elim}
+use mathlib.Core.Path.{_≡_, refl, ap, sym}
+use types.Run.{OneOf}
+use denote.Enum.Declared.{tagOf}
+use Rattle.framing.proofs.Event.{the-type}
+use Rattle.framing.specs.declared.Event.{Event}
+use Rattle.framing.specs.declared.Event.the-variants.{Quiet, Message, ShortMessage, BadChecksum, LengthMismatch, BadEscape, TooLong, Refused}
+use Rattle.framing.specs.Decode.{outcomeOf}
+use Rattle.framing.specs.Feed.{isQuiet}
+use Rattle.report.specs.ListingLaws.{listed-7, listed-quiet, listed-event}
 use borrow.Author.Needs.{needs}
 use Rattle.report.proofs.listing.list_bytes.Statement.{statement}
 use Rattle.report.proofs.listing.list_bytes.Tie as tie
@@ -9,9 +22,23 @@ use Rattle.report.proofs.line.put_line.Reads as put-line-reads
 use Rattle.std.proofs.num.wrapping_add_u64.Reads as wrapping-add-u64-reads
 use Rattle.std.proofs.num.wrapping_sub_u64.Reads as wrapping-sub-u64-reads
 
+-- the number of Quiet is none of the others'
+not-zero : OneOf (1 ∷ 2 ∷ 3 ∷ 4 ∷ 5 ∷ 6 ∷ 7 ∷ []) 0 → ⊥
+not-zero h = ⊎-elim (λ e. omega arith) (⊎-elim (λ e. omega arith) (⊎-elim (λ e. omega arith) (⊎-elim (λ e. omega arith) (⊎-elim (λ e. omega arith) (⊎-elim (λ e. omega arith) (λ e. omega arith)))))) h
+
+not-quiet : (e : Event) → OneOf (1 ∷ 2 ∷ 3 ∷ 4 ∷ 5 ∷ 6 ∷ 7 ∷ []) (tagOf the-type e) → isQuiet (outcomeOf e) ≡ false
+not-quiet Quiet h = absurd (not-zero h)
+not-quiet (Message c n) h = refl
+not-quiet ShortMessage h = refl
+not-quiet BadChecksum h = refl
+not-quiet (LengthMismatch d a) h = refl
+not-quiet (BadEscape b) h = refl
+not-quiet TooLong h = refl
+not-quiet (Refused number) h = refl
+
 -- src/listing.rt:44:9
 returns : tie.Need-returns
-returns c = search needs
+returns c = sym (listed-7 _ _ _ _ _ (c .if1 .taken))
 
 -- src/listing.rt:52:9
 push-bytes-requires : tie.Need-push-bytes-requires
@@ -31,7 +58,10 @@ same-length c = search needs
 
 -- src/listing.rt:58:9
 returns-2 : tie.Need-returns-2
-returns-2 c = search needs
+returns-2 c =
+    let w = c .before .before in
+    let p = w .before .before .before .before in
+    listed-quiet _ _ _ _ _ (p .push-bytes .result) _ (p .before .before .before .if1 .left) (p .push-bytes .ensures) (ap outcomeOf (c .enum-told .given .1)) (w .wrapping-add-u64 .ensures)
 
 -- src/listing.rt:69:9
 wrapping-sub-u64-requires : tie.Need-wrapping-sub-u64-requires
@@ -59,7 +89,15 @@ same-length-3 c = search needs
 
 -- src/listing.rt:40:1
 returns-3 : tie.Need-returns-3
-returns-3 c = search needs
+returns-3 c =
+    let l = c .before .before .before in
+    let y = l .before in
+    let b = y .before .before .before in
+    let k = b .before in
+    let w = k .before in
+    let p = w .before .before .before .before in
+    listed-event _ _ _ _ _ (p .push-bytes .result) _ (p .before .before .before .if1 .left) (p .push-bytes .ensures) (not-quiet (p .push-bytes .result .event) (k .match .keys2)) (w .wrapping-add-u64 .ensures)
+    (b .wrapping-sub-u64 .ensures) (search needs) (y .payload .ensures) (l .put-line .ensures) (c .wrapping-add-u642 .ensures)
 
 pub list-bytes-spec : {M : Type 1} → statement M
 list-bytes-spec =
