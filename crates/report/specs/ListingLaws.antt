@@ -18,7 +18,8 @@ use Rattle.framing.specs.declared.Fed.{Fed}
 use Rattle.report.specs.Puts.{Puts, puts-written}
 use Rattle.report.specs.Line.{lineOf}
 use Rattle.report.specs.LineLaws.{line-length}
-use Rattle.report.specs.Listing.{listing, Turn, numbered, fedLine, listed}
+use Rattle.report.specs.Listing.{listing, Turn, toldListed, numbered, fedLine, listed}
+use Rattle.report.specs.declared.listing.Listed.{Listed}
 
 -- an event has used a byte
 pub fed-event : (s : State) (bs : List ℕ) → isQuiet (fed s bs .outcome) ≡ false → 1 ≤ fed s bs .used
@@ -69,6 +70,10 @@ module _ (n at : ℕ) (s : State) (bytes out : List ℕ) where
       let f : len ≡ length (lineOf n last (outcomeOf (r .event)) payload) = omega (arith, u .after) in
       let g : new ≡ written (lineOf n last (outcomeOf (r .event)) payload) out = puts-written u (omega (arith, line-length n last (outcomeOf (r .event)) payload)) in
       sym (listed-taken h ∙ rw (← e, q, p, g, f, d, k, place))
+
+-- an answer that is known
+pub told-by : {r d : Listed} {buf out : List ℕ} {t : Turn} → r ≡ d → toldListed d buf out ≡ t → toldListed r buf out ≡ t
+told-by {r} {d} {buf} {out} {t} e h = rw e h
 
 -- what was fed up to the first event: its line, and the listing of the rest
 abbrev pub turned : ℕ → ℕ → Feed → List ℕ → List ℕ

@@ -24,9 +24,9 @@ digits (suc k) n = pick (ltb n 10) ((48 + n) ∷ []) (digits k (n / 10) ++ ((48 
 unfoldable pub decimal : ℕ → List ℕ
 decimal n = digits 20 n
 
--- a hexadecimal digit in lower case
+-- a hexadecimal digit in lower case: 0 to 9 from 48 on, a to f from 97 on
 abbrev pub hexDigit : ℕ → ℕ
-hexDigit d = pick (ltb d 10) (48 + d) (87 + d)
+hexDigit d = pick (ltb d 10) (48 + d) (97 + (d - 10))
 
 -- a byte in two hexadecimal digits (document 01: "cmd (two lowercase hex digits)")
 unfoldable pub hex2 : ℕ → List ℕ

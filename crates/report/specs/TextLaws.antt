@@ -103,5 +103,5 @@ read-back n h = value-digits 19 n (omega arith)
 pub hex-low : (d : ℕ) → d < 10 → hexDigit d ≡ 48 + d
 hex-low d h = rw (lt-ltb d 10 h)
 
-pub hex-high : (d : ℕ) → 10 ≤ d → hexDigit d ≡ 87 + d
+pub hex-high : (d : ℕ) → 10 ≤ d → hexDigit d ≡ 97 + (d - 10)
 hex-high d h = rw (le-ltb d 10 h)

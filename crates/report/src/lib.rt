@@ -5,6 +5,7 @@ mod names;
 mod line;
 mod listing;
 
+pub use line::LINE_ROOM;
 pub use line::Line;
 pub use line::event_line;
 pub use listing::Place;

@@ -52,7 +52,7 @@ fn put_error(out: &mut [u8], n: u64, at: u64, number: u8) -> usize
 }
 
 // The line of an event; none where there was no event.
-pub fn put_line(out: &mut [u8], n: u64, at: u64, event: Event, payload: &[u8]) -> usize
+pub(crate) fn put_line(out: &mut [u8], n: u64, at: u64, event: Event, payload: &[u8]) -> usize
     requires { ⌜ 128 ≤ length (now out) ⌝ }
     ensures { λ r. ⌜ Puts (now (out .entry)) 0 (lineOf n at (outcomeOf event) (now (payload .entry))) (now (out .exit)) r ⌝ }
 {

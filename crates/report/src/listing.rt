@@ -35,6 +35,17 @@ impl Place {
     }
 }
 
+fn answer(decoder: Decoder, n: u64, at: u64, used: usize, len: usize) -> Listed
+    ensures { λ r. ⌜ r ≡ record { place = record { decoder = decoder; n = n; at = at }; used = used; len = len; number = 0 } ⌝ }
+{
+    Listed {
+        place: Place { decoder, n, at },
+        used,
+        len,
+        number: 0,
+    }
+}
+
 // Feeds bytes up to and with the one that gives an event, and writes the event's line to the start of out.
 // Refuses with 7 an out under 128 bytes.
 pub fn list_bytes(place: Place, buf: &mut [u8], bytes: &[u8], out: &mut [u8]) -> Listed
@@ -55,27 +66,9 @@ pub fn list_bytes(place: Place, buf: &mut [u8], bytes: &[u8], out: &mut [u8]) ->
     let used = fed.used;
     let at = std::num::wrapping_add_u64(place.at, used as u64);
     if let Event::Quiet = event {
-        return Listed {
-            place: Place {
-                decoder,
-                n: place.n,
-                at,
-            },
-            used,
-            len: 0,
-            number: 0,
-        };
+        return answer(decoder, place.n, at, used, 0);
     }
     let last = std::num::wrapping_sub_u64(at, 1);
     let len = put_line(out, place.n, last, event, framing::payload(buf, event));
-    Listed {
-        place: Place {
-            decoder,
-            n: std::num::wrapping_add_u64(place.n, 1),
-            at,
-        },
-        used,
-        len,
-        number: 0,
-    }
+    answer(decoder, std::num::wrapping_add_u64(place.n, 1), at, used, len)
 }

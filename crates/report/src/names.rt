@@ -70,7 +70,7 @@ fn is_bem(command: u8) -> bool
 }
 
 // The name of the reply that a message carries, or none.
-pub fn put_bem(out: &mut [u8], at: usize, command: u8, payload: &[u8]) -> usize
+pub(crate) fn put_bem(out: &mut [u8], at: usize, command: u8, payload: &[u8]) -> usize
     requires { ⌜ at + 12 ≤ length (now out) ⌝ }
     ensures { λ r. ⌜ Puts (now (out .entry)) at (bemOf command (now (payload .entry))) (now (out .exit)) r ⌝ }
 {

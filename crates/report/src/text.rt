@@ -7,7 +7,7 @@ ghost use mathlib.Core.Path.{_≡_};
 ghost use mathlib.Core.List.{_++_};
 
 // The bytes of s.
-pub fn put_bytes(out: &mut [u8], at: usize, s: &[u8]) -> usize
+pub(crate) fn put_bytes(out: &mut [u8], at: usize, s: &[u8]) -> usize
     requires { ⌜ at + length (now s) ≤ length (now out) ⌝ }
     ensures { λ r. ⌜ Puts (now (out .entry)) at (now (s .entry)) (now (out .exit)) r ⌝ }
 {
@@ -22,21 +22,21 @@ pub fn put_bytes(out: &mut [u8], at: usize, s: &[u8]) -> usize
 }
 
 // The decimal digits of n, with no zeros in front.
-pub fn put_decimal(out: &mut [u8], at: usize, n: u64) -> usize
+pub(crate) fn put_decimal(out: &mut [u8], at: usize, n: u64) -> usize
     requires { ⌜ at + length (decimal n) ≤ length (now out) ⌝ }
     ensures { λ r. ⌜ Puts (now (out .entry)) at (decimal n) (now (out .exit)) r ⌝ }
 {
     if n < 10 {
-        out[at] = 48 + n as u8;
+        out[at] = b'0' + n as u8;
         return at + 1;
     }
     let next = put_decimal(out, at, n / 10);
-    out[next] = 48 + (n % 10) as u8;
+    out[next] = b'0' + (n % 10) as u8;
     next + 1
 }
 
 // A key and a number in decimal.
-pub fn put_number(out: &mut [u8], at: usize, key: &[u8], n: u64) -> usize
+pub(crate) fn put_number(out: &mut [u8], at: usize, key: &[u8], n: u64) -> usize
     requires { ⌜ at + length (now key) + length (decimal n) ≤ length (now out) ⌝ }
     ensures { λ r. ⌜ Puts (now (out .entry)) at (now (key .entry) ++ decimal n) (now (out .exit)) r ⌝ }
 {
@@ -49,11 +49,11 @@ fn hex_digit(d: u8) -> u8
     requires { ⌜ d ≤ 15 ⌝ }
     ensures { λ r. ⌜ r ≡ hexDigit d ⌝ }
 {
-    if d < 10 { 48 + d } else { 87 + d }
+    if d < 10 { b'0' + d } else { b'a' + (d - 10) }
 }
 
 // The two hexadecimal digits of b.
-pub fn put_hex(out: &mut [u8], at: usize, b: u8) -> usize
+pub(crate) fn put_hex(out: &mut [u8], at: usize, b: u8) -> usize
     requires { ⌜ at + 2 ≤ length (now out) ⌝ }
     ensures { λ r. ⌜ Puts (now (out .entry)) at (hex2 b) (now (out .exit)) r ⌝ }
 {

@@ -10,7 +10,7 @@ use Rattle.report.proofs.text.hex_digit.Lts as lts
 add-result : tie.Need-add-result
 add-result c = search needs
 
--- src/text.rt:52:33
+-- src/text.rt:52:35
 add-result-2 : tie.Need-add-result-2
 add-result-2 c = search needs
 
