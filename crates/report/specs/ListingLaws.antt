@@ -7,8 +7,8 @@ use mathlib.Core.Path.{_≡_, refl, ap, sym, _∙_}
 use mathlib.Core.Bool.{Bool, true, false}
 use mathlib.Core.List.{List, [], _∷_, _++_, append-assoc}
 use borrow.Author.Tests.{lt-ltb, le-ltb}
-use lib.ListN.{length, take, drop}
-use lib.Seq.{take-append-seam}
+use lib.ListN.{length, take, drop, length-drop}
+use lib.Seq.{take-append-seam, length-take-le}
 use Rattle.field.specs.Pick.{pick}
 use Rattle.field.specs.Written.{written}
 use Rattle.framing.specs.Decode.{Outcome, quiet, message, error, refused, State, Step, state, step, after, outcomeOf, payloadOf}
@@ -74,6 +74,24 @@ module _ (n at : ℕ) (s : State) (bytes out : List ℕ) where
 -- an answer that is known
 pub told-by : {r d : Listed} {buf out : List ℕ} {t : Turn} → r ≡ d → toldListed d buf out ≡ t → toldListed r buf out ≡ t
 told-by {r} {d} {buf} {out} {t} e h = rw e h
+
+-- what a loop over the rest of the input and of the output goes by: it moves, and stays inside both
+pub listed-rest : (r : Listed) (buf new : List ℕ) (n at : ℕ) (s : State) (bytes out : List ℕ) (i m : ℕ)
+    → toldListed r buf new ≡ listed n at s (take (length bytes - i) (drop i bytes)) (take (length out - m) (drop m out))
+    → i < length bytes → m ≤ length out → 128 ≤ length out - m
+    → (1 ≤ r .used) × (i + r .used ≤ length bytes) × (m + r .len ≤ length out)
+listed-rest r buf new n at s bytes out i m e h k l =
+    let rest = take (length bytes - i) (drop i bytes) in
+    let room = take (length out - m) (drop m out) in
+    let c : length rest ≡ length bytes - i = length-take-le (length bytes - i) (drop i bytes) (rw length-drop (omega arith)) in
+    let d : length room ≡ length out - m = length-take-le (length out - m) (drop m out) (rw length-drop (omega arith)) in
+    let g = e ∙ listed-taken n at s rest room (omega (arith, d)) in
+    let u : r .used ≡ fed s rest .used = ap (λ (t : Turn). t .used) g in
+    let v : r .len ≡ length (fedLine n at (fed s rest)) = ap (λ (t : Turn). t .len) g in
+    let f = fed s rest in
+    let w : length (fedLine n at f) ≤ 105 =
+    line-length n ((at + (f .used - 1)) % 2 ^ 64) (f .outcome) (payloadOf (f .outcome) (f .next .buffer)) in
+    (omega (arith, u, fed-some s rest (omega (arith, c))), omega (arith, u, c, fed-bound s rest), omega (arith, v, w))
 
 -- what was fed up to the first event: its line, and the listing of the rest
 abbrev pub turned : ℕ → ℕ → Feed → List ℕ → List ℕ

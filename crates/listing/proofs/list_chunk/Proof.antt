@@ -1,0 +1,130 @@
+use borrow.Author.Needs.{needs}
+use Rattle.listing.proofs.list_chunk.Statement.{statement}
+use Rattle.listing.proofs.list_chunk.Tie as tie
+use Rattle.listing.proofs.list_chunk.Reads as reads
+use Rattle.listing.proofs.list_chunk.Lts as lts
+use Rattle.io.proofs.write_all.Reads as write-all-reads
+use Rattle.report.proofs.list_bytes.Reads as list-bytes-reads
+
+abbrev Inv-loop : tie.InvT-loop
+Inv-loop buf₀ bytes out₀ place₀ i₀ n₀ buf out place i n = ?
+
+abbrev μ-loop : tie.MeasureT-loop
+μ-loop buf₀ bytes out₀ place₀ i₀ n₀ buf out place i n = ?
+
+-- src/main.rt:16:5
+loop-holds : tie.Need-loop-holds Inv-loop μ-loop
+loop-holds c = search needs
+
+-- src/main.rt:17:12
+sub-if1 : tie.Need-sub-if1 Inv-loop μ-loop
+sub-if1 c = search needs
+
+-- src/main.rt:18:42
+slice-reshare-prefix-write-all : tie.Need-slice-reshare-prefix-write-all Inv-loop μ-loop
+slice-reshare-prefix-write-all c = search needs
+
+-- src/main.rt:18:42
+slice-aggregate-write-all : tie.Need-slice-aggregate-write-all Inv-loop μ-loop
+slice-aggregate-write-all c = search needs
+
+-- src/main.rt:18:13
+write-all-requires : tie.Need-write-all-requires Inv-loop μ-loop
+write-all-requires c κs = search needs
+
+-- src/main.rt:21:48
+sub-list-bytes : tie.Need-sub-list-bytes Inv-loop μ-loop
+sub-list-bytes c = search needs
+
+-- src/main.rt:21:48
+part-list-bytes-start : tie.Need-part-list-bytes-start Inv-loop μ-loop
+part-list-bytes-start c = search needs
+
+-- src/main.rt:21:48
+part-list-bytes-end : tie.Need-part-list-bytes-end Inv-loop μ-loop
+part-list-bytes-end c = search needs
+
+-- src/main.rt:21:61
+sub-list-bytes-2 : tie.Need-sub-list-bytes-2 Inv-loop μ-loop
+sub-list-bytes-2 c = search needs
+
+-- src/main.rt:21:61
+part-list-bytes-start-2 : tie.Need-part-list-bytes-start-2 Inv-loop μ-loop
+part-list-bytes-start-2 c = search needs
+
+-- src/main.rt:21:61
+part-list-bytes-end-2 : tie.Need-part-list-bytes-end-2 Inv-loop μ-loop
+part-list-bytes-end-2 c = search needs
+
+-- src/main.rt:21:13
+list-bytes-requires : tie.Need-list-bytes-requires Inv-loop μ-loop
+list-bytes-requires c κs = search needs
+
+-- src/main.rt:23:9
+add-i : tie.Need-add-i Inv-loop μ-loop
+add-i c = search needs
+
+-- src/main.rt:24:9
+add-n : tie.Need-add-n Inv-loop μ-loop
+add-n c = search needs
+
+-- src/main.rt:16:5
+loop-less : tie.Need-loop-less Inv-loop μ-loop
+loop-less c = search needs
+
+-- src/main.rt:16:5
+loop-again : tie.Need-loop-again Inv-loop μ-loop
+loop-again c = search needs
+
+-- src/main.rt:26:34
+slice-reshare-prefix-write-all-2 : tie.Need-slice-reshare-prefix-write-all-2 Inv-loop μ-loop
+slice-reshare-prefix-write-all-2 c = search needs
+
+-- src/main.rt:26:34
+slice-aggregate-write-all-2 : tie.Need-slice-aggregate-write-all-2 Inv-loop μ-loop
+slice-aggregate-write-all-2 c = search needs
+
+-- src/main.rt:26:5
+write-all-requires-2 : tie.Need-write-all-requires-2 Inv-loop μ-loop
+write-all-requires-2 c κs = search needs
+
+-- src/main.rt:10:1
+same-length : tie.Need-same-length Inv-loop μ-loop
+same-length c = search needs
+
+-- src/main.rt:10:1
+same-length-2 : tie.Need-same-length-2 Inv-loop μ-loop
+same-length-2 c = search needs
+
+-- src/main.rt:10:1
+returns : tie.Need-returns Inv-loop μ-loop
+returns c = search needs
+
+pub list-chunk-spec : {M : Type 1} → statement M
+list-chunk-spec =
+    tie.close
+    (tie.spec
+    Inv-loop
+    μ-loop
+    loop-holds
+    sub-if1
+    slice-reshare-prefix-write-all
+    slice-aggregate-write-all
+    write-all-requires
+    sub-list-bytes
+    part-list-bytes-start
+    part-list-bytes-end
+    sub-list-bytes-2
+    part-list-bytes-start-2
+    part-list-bytes-end-2
+    list-bytes-requires
+    add-i
+    add-n
+    loop-less
+    loop-again
+    slice-reshare-prefix-write-all-2
+    slice-aggregate-write-all-2
+    write-all-requires-2
+    same-length
+    same-length-2
+    returns)
