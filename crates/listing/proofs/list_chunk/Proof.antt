@@ -1,3 +1,13 @@
+use Prim.Native.Nat.{_+_}
+use native.Mathlib.Omega.{arith}
+use mathlib.Core.Path.{sym, _∙_}
+use borrow.Rule.Slice.PartMut.{same-len-mid}
+use mathlib.Core.Logic.{⊎-elim}
+use lib.Seq.{length-take-le}
+use Rattle.report.specs.ListingLaws.{listed-rest}
+use Prim.Native.Nat.{_≤_, _-_}
+use mathlib.Core.Path.{_≡_}
+use lib.ListN.{length}
 use borrow.Author.Needs.{needs}
 use Rattle.listing.proofs.list_chunk.Statement.{statement}
 use Rattle.listing.proofs.list_chunk.Tie as tie
@@ -7,10 +17,26 @@ use Rattle.io.proofs.write_all.Reads as write-all-reads
 use Rattle.report.proofs.list_bytes.Reads as list-bytes-reads
 
 abbrev Inv-loop : tie.InvT-loop
-Inv-loop buf₀ bytes out₀ place₀ i₀ n₀ buf out place i n = ?
+Inv-loop buf₀ bytes out₀ place₀ i₀ n₀ buf out place i n = (i ≤ length bytes) × (n ≤ length out) × (length out ≡ length out₀) × (length buf ≡ length buf₀)
 
 abbrev μ-loop : tie.MeasureT-loop
-μ-loop buf₀ bytes out₀ place₀ i₀ n₀ buf out place i n = ?
+μ-loop buf₀ bytes out₀ place₀ i₀ n₀ buf out place i n = length bytes - i
+
+-- there is room for a line
+room : (c : tie.Joined1 Inv-loop μ-loop) → (c .if1 .n ≤ length (c .before .before .loop .out)) × (128 ≤ length (c .before .before .loop .out) - c .if1 .n)
+room c = ⊎-elim (λ w. omega arith) (λ w. omega arith) (c .if1 .came)
+
+-- the call moves, and stays inside
+moved : (c : tie.After-list-bytes Inv-loop μ-loop)
+    → let j = c .before .before .before .before .before in
+    let l = j .before .before in
+    (1 ≤ c .list-bytes .result .used) × (l .loop .i + c .list-bytes .result .used ≤ length (l .before .before .before .before .args .bytes .now))
+    × (j .if1 .n + c .list-bytes .result .len ≤ length (l .loop .out))
+moved c =
+    let j = c .before .before .before .before .before in
+    let l = j .before .before in
+    listed-rest (c .list-bytes .result) _ _ _ _ _ (l .before .before .before .before .args .bytes .now) (l .loop .out) (l .loop .i) (j .if1 .n) (c .list-bytes .ensures)
+    (j .before .loop-test .taken) (room j .0) (room j .1)
 
 -- src/main.rt:16:5
 loop-holds : tie.Need-loop-holds Inv-loop μ-loop
@@ -26,7 +52,7 @@ slice-reshare-prefix-write-all c = search needs
 
 -- src/main.rt:18:42
 slice-aggregate-write-all : tie.Need-slice-aggregate-write-all Inv-loop μ-loop
-slice-aggregate-write-all c = search needs
+slice-aggregate-write-all c = sym (length-take-le _ _ (omega arith))
 
 -- src/main.rt:18:13
 write-all-requires : tie.Need-write-all-requires Inv-loop μ-loop
@@ -46,11 +72,11 @@ part-list-bytes-end c = search needs
 
 -- src/main.rt:21:61
 sub-list-bytes-2 : tie.Need-sub-list-bytes-2 Inv-loop μ-loop
-sub-list-bytes-2 c = search needs
+sub-list-bytes-2 c = omega (arith, room (c .before .before .before))
 
 -- src/main.rt:21:61
 part-list-bytes-start-2 : tie.Need-part-list-bytes-start-2 Inv-loop μ-loop
-part-list-bytes-start-2 c = search needs
+part-list-bytes-start-2 c = omega (arith, room (c .before .before .before))
 
 -- src/main.rt:21:61
 part-list-bytes-end-2 : tie.Need-part-list-bytes-end-2 Inv-loop μ-loop
@@ -62,19 +88,38 @@ list-bytes-requires c κs = search needs
 
 -- src/main.rt:23:9
 add-i : tie.Need-add-i Inv-loop μ-loop
-add-i c = search needs
+add-i c =
+    let r = c .before .before .before .before .before .before in
+    let l = r .before .before .before .before .before .before .before in
+    let s = l .before .before .before .before in
+    omega (arith, moved r, s .good)
 
 -- src/main.rt:24:9
 add-n : tie.Need-add-n Inv-loop μ-loop
-add-n c = search needs
+add-n c =
+    let r = c .before .before .before .before .before .before .before in
+    let l = r .before .before .before .before .before .before .before in
+    let s = l .before .before .before .before in
+    omega (arith, moved r, l .loop .inv .2, s .good)
 
 -- src/main.rt:16:5
 loop-less : tie.Need-loop-less Inv-loop μ-loop
-loop-less c = search needs
+loop-less c =
+    let r = c .before .before .before .before .before .before .before in
+    let l = r .before .before .before .before .before .before .before in
+    let s = l .before .before .before .before in
+    omega (arith, moved r, r .before .before .before .before .before .before .loop-test .taken)
 
 -- src/main.rt:16:5
 loop-again : tie.Need-loop-again Inv-loop μ-loop
-loop-again c = search needs
+loop-again c =
+    let r = c .before .before .before .before .before .before .before in
+    let l = r .before .before .before .before .before .before .before in
+    let s = l .before .before .before .before in
+    let j = r .before .before .before .before .before in
+    let o = l .loop .out in
+    let e = same-len-mid (j .if1 .n) (length o - j .if1 .n) o (r .list-bytes .last .1 .1 .1 .0) (r .list-bytes .kept .1 .1 .1 .0) in
+    (omega (arith, moved r), omega (arith, moved r, e), e ∙ l .loop .inv .2, search needs)
 
 -- src/main.rt:26:34
 slice-reshare-prefix-write-all-2 : tie.Need-slice-reshare-prefix-write-all-2 Inv-loop μ-loop
@@ -82,7 +127,7 @@ slice-reshare-prefix-write-all-2 c = search needs
 
 -- src/main.rt:26:34
 slice-aggregate-write-all-2 : tie.Need-slice-aggregate-write-all-2 Inv-loop μ-loop
-slice-aggregate-write-all-2 c = search needs
+slice-aggregate-write-all-2 c = sym (length-take-le _ _ (omega arith))
 
 -- src/main.rt:26:5
 write-all-requires-2 : tie.Need-write-all-requires-2 Inv-loop μ-loop
