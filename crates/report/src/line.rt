@@ -61,7 +61,10 @@ pub(crate) fn put_line(out: &mut [u8], n: u64, at: u64, event: Event, payload: &
         Event::Message { command, len } => put_message(out, n, at, command, len, payload),
         Event::ShortMessage => put_error(out, n, at, 1),
         Event::BadChecksum => put_error(out, n, at, 2),
-        Event::LengthMismatch { declared: _, actual: _ } => put_error(out, n, at, 3),
+        Event::LengthMismatch {
+            declared: _,
+            actual: _,
+        } => put_error(out, n, at, 3),
         Event::BadEscape(_) => put_error(out, n, at, 4),
         Event::TooLong => put_error(out, n, at, 5),
         Event::Refused(number) => put_error(out, n, at, number),

@@ -70,5 +70,11 @@ pub fn list_bytes(place: Place, buf: &mut [u8], bytes: &[u8], out: &mut [u8]) ->
     }
     let last = std::num::wrapping_sub_u64(at, 1);
     let len = put_line(out, place.n, last, event, framing::payload(buf, event));
-    answer(decoder, std::num::wrapping_add_u64(place.n, 1), at, used, len)
+    answer(
+        decoder,
+        std::num::wrapping_add_u64(place.n, 1),
+        at,
+        used,
+        len,
+    )
 }

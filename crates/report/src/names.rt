@@ -15,16 +15,46 @@ struct ReplyName {
 }
 
 const NAMES: [ReplyName; 10] = [
-    ReplyName { reply: 0x11, name: 1 },
-    ReplyName { reply: 0x13, name: 2 },
-    ReplyName { reply: 0x40, name: 3 },
-    ReplyName { reply: 0x41, name: 4 },
-    ReplyName { reply: 0x47, name: 5 },
-    ReplyName { reply: 0x49, name: 6 },
-    ReplyName { reply: 0x4F, name: 7 },
-    ReplyName { reply: 0xF0, name: 8 },
-    ReplyName { reply: 0xF1, name: 9 },
-    ReplyName { reply: 0xF4, name: 10 },
+    ReplyName {
+        reply: 0x11,
+        name: 1,
+    },
+    ReplyName {
+        reply: 0x13,
+        name: 2,
+    },
+    ReplyName {
+        reply: 0x40,
+        name: 3,
+    },
+    ReplyName {
+        reply: 0x41,
+        name: 4,
+    },
+    ReplyName {
+        reply: 0x47,
+        name: 5,
+    },
+    ReplyName {
+        reply: 0x49,
+        name: 6,
+    },
+    ReplyName {
+        reply: 0x4F,
+        name: 7,
+    },
+    ReplyName {
+        reply: 0xF0,
+        name: 8,
+    },
+    ReplyName {
+        reply: 0xF1,
+        name: 9,
+    },
+    ReplyName {
+        reply: 0xF4,
+        name: 10,
+    },
 ];
 
 // The number of a reply byte's name; 0, other, where the table has none.

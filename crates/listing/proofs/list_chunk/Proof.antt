@@ -1,20 +1,15 @@
-use Prim.Native.Nat.{_+_}
+-- `listing::list_chunk` meets its contract. Assumes nothing.
+use Prim.Native.Nat.{_+_, _≤_, _-_}
 use native.Mathlib.Omega.{arith}
-use mathlib.Core.Path.{sym, _∙_}
-use borrow.Rule.Slice.PartMut.{same-len-mid}
+use mathlib.Core.Path.{sym, _∙_, _≡_}
 use mathlib.Core.Logic.{⊎-elim}
-use lib.Seq.{length-take-le}
-use Rattle.report.specs.ListingLaws.{listed-rest}
-use Prim.Native.Nat.{_≤_, _-_}
-use mathlib.Core.Path.{_≡_}
-use lib.ListN.{length}
+use borrow.Rule.Slice.PartMut.{same-len-mid}
 use borrow.Author.Needs.{needs}
+use lib.Seq.{length-take-le}
+use lib.ListN.{length}
+use Rattle.report.specs.ListingLaws.{listed-rest}
 use Rattle.listing.proofs.list_chunk.Statement.{statement}
 use Rattle.listing.proofs.list_chunk.Tie as tie
-use Rattle.listing.proofs.list_chunk.Reads as reads
-use Rattle.listing.proofs.list_chunk.Lts as lts
-use Rattle.io.proofs.write_all.Reads as write-all-reads
-use Rattle.report.proofs.list_bytes.Reads as list-bytes-reads
 
 abbrev Inv-loop : tie.InvT-loop
 Inv-loop buf₀ bytes out₀ place₀ i₀ n₀ buf out place i n = (i ≤ length bytes) × (n ≤ length out) × (length out ≡ length out₀) × (length buf ≡ length buf₀)
@@ -38,55 +33,42 @@ moved c =
     listed-rest (c .list-bytes .result) _ _ _ _ _ (l .before .before .before .before .args .bytes .now) (l .loop .out) (l .loop .i) (j .if1 .n) (c .list-bytes .ensures)
     (j .before .loop-test .taken) (room j .0) (room j .1)
 
--- src/main.rt:16:5
 loop-holds : tie.Need-loop-holds Inv-loop μ-loop
 loop-holds c = search needs
 
--- src/main.rt:17:12
 sub-if1 : tie.Need-sub-if1 Inv-loop μ-loop
 sub-if1 c = search needs
 
--- src/main.rt:18:42
 slice-reshare-prefix-write-all : tie.Need-slice-reshare-prefix-write-all Inv-loop μ-loop
 slice-reshare-prefix-write-all c = search needs
 
--- src/main.rt:18:42
 slice-aggregate-write-all : tie.Need-slice-aggregate-write-all Inv-loop μ-loop
 slice-aggregate-write-all c = sym (length-take-le _ _ (omega arith))
 
--- src/main.rt:18:13
 write-all-requires : tie.Need-write-all-requires Inv-loop μ-loop
 write-all-requires c κs = search needs
 
--- src/main.rt:21:48
 sub-list-bytes : tie.Need-sub-list-bytes Inv-loop μ-loop
 sub-list-bytes c = search needs
 
--- src/main.rt:21:48
 part-list-bytes-start : tie.Need-part-list-bytes-start Inv-loop μ-loop
 part-list-bytes-start c = search needs
 
--- src/main.rt:21:48
 part-list-bytes-end : tie.Need-part-list-bytes-end Inv-loop μ-loop
 part-list-bytes-end c = search needs
 
--- src/main.rt:21:61
 sub-list-bytes-2 : tie.Need-sub-list-bytes-2 Inv-loop μ-loop
 sub-list-bytes-2 c = omega (arith, room (c .before .before .before))
 
--- src/main.rt:21:61
 part-list-bytes-start-2 : tie.Need-part-list-bytes-start-2 Inv-loop μ-loop
 part-list-bytes-start-2 c = omega (arith, room (c .before .before .before))
 
--- src/main.rt:21:61
 part-list-bytes-end-2 : tie.Need-part-list-bytes-end-2 Inv-loop μ-loop
 part-list-bytes-end-2 c = search needs
 
--- src/main.rt:21:13
 list-bytes-requires : tie.Need-list-bytes-requires Inv-loop μ-loop
 list-bytes-requires c κs = search needs
 
--- src/main.rt:23:9
 add-i : tie.Need-add-i Inv-loop μ-loop
 add-i c =
     let r = c .before .before .before .before .before .before in
@@ -94,7 +76,6 @@ add-i c =
     let s = l .before .before .before .before in
     omega (arith, moved r, s .good)
 
--- src/main.rt:24:9
 add-n : tie.Need-add-n Inv-loop μ-loop
 add-n c =
     let r = c .before .before .before .before .before .before .before in
@@ -102,7 +83,6 @@ add-n c =
     let s = l .before .before .before .before in
     omega (arith, moved r, l .loop .inv .2, s .good)
 
--- src/main.rt:16:5
 loop-less : tie.Need-loop-less Inv-loop μ-loop
 loop-less c =
     let r = c .before .before .before .before .before .before .before in
@@ -110,7 +90,6 @@ loop-less c =
     let s = l .before .before .before .before in
     omega (arith, moved r, r .before .before .before .before .before .before .loop-test .taken)
 
--- src/main.rt:16:5
 loop-again : tie.Need-loop-again Inv-loop μ-loop
 loop-again c =
     let r = c .before .before .before .before .before .before .before in
@@ -121,27 +100,21 @@ loop-again c =
     let e = same-len-mid (j .if1 .n) (length o - j .if1 .n) o (r .list-bytes .last .1 .1 .1 .0) (r .list-bytes .kept .1 .1 .1 .0) in
     (omega (arith, moved r), omega (arith, moved r, e), e ∙ l .loop .inv .2, search needs)
 
--- src/main.rt:26:34
 slice-reshare-prefix-write-all-2 : tie.Need-slice-reshare-prefix-write-all-2 Inv-loop μ-loop
 slice-reshare-prefix-write-all-2 c = search needs
 
--- src/main.rt:26:34
 slice-aggregate-write-all-2 : tie.Need-slice-aggregate-write-all-2 Inv-loop μ-loop
 slice-aggregate-write-all-2 c = sym (length-take-le _ _ (omega arith))
 
--- src/main.rt:26:5
 write-all-requires-2 : tie.Need-write-all-requires-2 Inv-loop μ-loop
 write-all-requires-2 c κs = search needs
 
--- src/main.rt:10:1
 same-length : tie.Need-same-length Inv-loop μ-loop
 same-length c = search needs
 
--- src/main.rt:10:1
 same-length-2 : tie.Need-same-length-2 Inv-loop μ-loop
 same-length-2 c = search needs
 
--- src/main.rt:10:1
 returns : tie.Need-returns Inv-loop μ-loop
 returns c = search needs
 

@@ -1,25 +1,19 @@
+-- `report::line::event_line` meets its contract. Assumes nothing.
 use mathlib.Core.Path.{sym}
-use Rattle.report.specs.LineLaws.{lined-7, lined-by}
 use borrow.Author.Needs.{needs}
+use Rattle.report.specs.LineLaws.{lined-7, lined-by}
 use Rattle.report.proofs.line.event_line.Statement.{statement}
 use Rattle.report.proofs.line.event_line.Tie as tie
-use Rattle.report.proofs.line.event_line.Reads as reads
-use Rattle.report.proofs.line.event_line.Lts as lts
-use Rattle.report.proofs.line.put_line.Reads as put-line-reads
 
--- src/line.rt:76:9
 returns : tie.Need-returns
 returns c = sym (lined-7 _ _ _ _ _ (c .if1 .taken))
 
--- src/line.rt:78:19
 put-line-requires : tie.Need-put-line-requires
 put-line-requires c κs = search needs
 
--- src/line.rt:72:1
 same-length : tie.Need-same-length
 same-length c = search needs
 
--- src/line.rt:72:1
 returns-2 : tie.Need-returns-2
 returns-2 c =
     let p = c .before .before in

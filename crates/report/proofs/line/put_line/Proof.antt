@@ -1,17 +1,14 @@
+-- `report::line::put_line` meets its contract. Assumes nothing.
 use Prim.Native.Nat.{ℕ}
 use mathlib.Core.List.{List}
 use mathlib.Core.Path.{_≡_}
+use borrow.Author.Needs.{needs}
 use Rattle.framing.specs.declared.Event.{Event}
 use Rattle.framing.specs.Decode.{outcomeOf}
 use Rattle.report.specs.Line.{lineOf}
 use Rattle.report.specs.Puts.{puts-text, puts-none}
-use borrow.Author.Needs.{needs}
 use Rattle.report.proofs.line.put_line.Statement.{statement}
 use Rattle.report.proofs.line.put_line.Tie as tie
-use Rattle.report.proofs.line.put_line.Reads as reads
-use Rattle.report.proofs.line.put_line.Lts as lts
-use Rattle.report.proofs.line.put_error.Reads as put-error-reads
-use Rattle.report.proofs.line.put_message.Reads as put-message-reads
 
 -- the line of an event that is known
 by-event : (n at : ℕ) (payload : List ℕ) {d e : Event} → d ≡ e → lineOf n at (outcomeOf e) payload ≡ lineOf n at (outcomeOf d) payload
@@ -20,74 +17,57 @@ by-event n at payload {d} {e} h = rw h
 enum-told : tie.Need-enum-told
 enum-told c = search needs
 
--- src/line.rt:61:26
 enum-known-event : tie.Need-enum-known-event
 enum-known-event c = search needs
 
--- src/line.rt:61:44
 put-message-requires : tie.Need-put-message-requires
 put-message-requires c κs = search needs
 
--- src/line.rt:62:42
 enum-told-2 : tie.Need-enum-told-2
 enum-told-2 c = search needs
 
--- src/line.rt:62:32
 put-error-requires : tie.Need-put-error-requires
 put-error-requires c κs = search needs
 
--- src/line.rt:63:41
 enum-told-3 : tie.Need-enum-told-3
 enum-told-3 c = search needs
 
--- src/line.rt:63:31
 put-error-requires-2 : tie.Need-put-error-requires-2
 put-error-requires-2 c κs = search needs
 
--- src/line.rt:64:71
 enum-told-4 : tie.Need-enum-told-4
 enum-told-4 c = search needs
 
--- src/line.rt:64:61
 put-error-requires-3 : tie.Need-put-error-requires-3
 put-error-requires-3 c κs = search needs
 
--- src/line.rt:65:42
 enum-told-5 : tie.Need-enum-told-5
 enum-told-5 c = search needs
 
--- src/line.rt:65:32
 put-error-requires-4 : tie.Need-put-error-requires-4
 put-error-requires-4 c κs = search needs
 
--- src/line.rt:66:37
 enum-told-6 : tie.Need-enum-told-6
 enum-told-6 c = search needs
 
--- src/line.rt:66:27
 put-error-requires-5 : tie.Need-put-error-requires-5
 put-error-requires-5 c κs = search needs
 
--- src/line.rt:67:24
 enum-known-event-2 : tie.Need-enum-known-event-2
 enum-known-event-2 c = search needs
 
--- src/line.rt:67:35
 put-error-requires-6 : tie.Need-put-error-requires-6
 put-error-requires-6 c κs = search needs
 
--- src/line.rt:55:1
 returns : tie.Need-returns
 unfolding lineOf
 returns c =
     let a = c .before .before .before .before .args in
     puts-text (by-event (a .n) (a .at) (a .payload .now) (c .enum-told .given .1)) (puts-none _ _)
 
--- src/line.rt:55:1
 same-length : tie.Need-same-length
 same-length c = search needs
 
--- src/line.rt:55:1
 returns-2 : tie.Need-returns-2
 unfolding lineOf
 returns-2 c =
@@ -96,11 +76,9 @@ returns-2 c =
     let a = e .before .before .before .before .args in
     puts-text (by-event (a .n) (a .at) (a .payload .now) (e .event .given .1)) (p .put-message .ensures)
 
--- src/line.rt:55:1
 same-length-2 : tie.Need-same-length-2
 same-length-2 c = search needs
 
--- src/line.rt:55:1
 returns-3 : tie.Need-returns-3
 unfolding lineOf
 returns-3 c =
@@ -109,11 +87,9 @@ returns-3 c =
     let a = e .before .before .before .before .args in
     puts-text (by-event (a .n) (a .at) (a .payload .now) (e .enum-told2 .given .1)) (p .put-error .ensures)
 
--- src/line.rt:55:1
 same-length-3 : tie.Need-same-length-3
 same-length-3 c = search needs
 
--- src/line.rt:55:1
 returns-4 : tie.Need-returns-4
 unfolding lineOf
 returns-4 c =
@@ -122,11 +98,9 @@ returns-4 c =
     let a = e .before .before .before .before .args in
     puts-text (by-event (a .n) (a .at) (a .payload .now) (e .enum-told3 .given .1)) (p .put-error2 .ensures)
 
--- src/line.rt:55:1
 same-length-4 : tie.Need-same-length-4
 same-length-4 c = search needs
 
--- src/line.rt:55:1
 returns-5 : tie.Need-returns-5
 unfolding lineOf
 returns-5 c =
@@ -135,11 +109,9 @@ returns-5 c =
     let a = e .before .before .before .before .args in
     puts-text (by-event (a .n) (a .at) (a .payload .now) (e .enum-told4 .given .1)) (p .put-error3 .ensures)
 
--- src/line.rt:55:1
 same-length-5 : tie.Need-same-length-5
 same-length-5 c = search needs
 
--- src/line.rt:55:1
 returns-6 : tie.Need-returns-6
 unfolding lineOf
 returns-6 c =
@@ -148,11 +120,9 @@ returns-6 c =
     let a = e .before .before .before .before .args in
     puts-text (by-event (a .n) (a .at) (a .payload .now) (e .enum-told5 .given .1)) (p .put-error4 .ensures)
 
--- src/line.rt:55:1
 same-length-6 : tie.Need-same-length-6
 same-length-6 c = search needs
 
--- src/line.rt:55:1
 returns-7 : tie.Need-returns-7
 unfolding lineOf
 returns-7 c =
@@ -161,11 +131,9 @@ returns-7 c =
     let a = e .before .before .before .before .args in
     puts-text (by-event (a .n) (a .at) (a .payload .now) (e .enum-told6 .given .1)) (p .put-error5 .ensures)
 
--- src/line.rt:55:1
 same-length-7 : tie.Need-same-length-7
 same-length-7 c = search needs
 
--- src/line.rt:55:1
 returns-8 : tie.Need-returns-8
 unfolding lineOf
 returns-8 c =

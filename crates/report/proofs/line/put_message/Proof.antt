@@ -1,29 +1,20 @@
+-- `report::line::put_message` meets its contract. Assumes nothing.
 use native.Mathlib.Omega.{arith}
+use borrow.Author.Needs.{needs}
 use Rattle.report.specs.Text.{asciiFrom, ascii, decimal, hex2}
 use Rattle.report.specs.TextLaws.{decimal-length}
 use Rattle.report.specs.Line.{messageLine}
 use Rattle.report.specs.LineLaws.{head-length, bem-length}
 use Rattle.report.specs.Puts.{puts-then, puts-both, puts-length}
-use borrow.Author.Needs.{needs}
 use Rattle.report.proofs.line.put_message.Statement.{statement}
 use Rattle.report.proofs.line.put_message.Tie as tie
-use Rattle.report.proofs.line.put_message.Reads as reads
-use Rattle.report.proofs.line.put_message.Lts as lts
-use Rattle.report.proofs.line.put_head.Reads as put-head-reads
-use Rattle.report.proofs.names.put_bem.Reads as put-bem-reads
-use Rattle.report.proofs.text.put_bytes.Reads as put-bytes-reads
-use Rattle.report.proofs.text.put_hex.Reads as put-hex-reads
-use Rattle.report.proofs.text.put_number.Reads as put-number-reads
 
--- src/line.rt:36:9
 put-head-requires : tie.Need-put-head-requires
 put-head-requires c κs = search needs
 
--- src/line.rt:37:33
 slice-aggregate-put-bytes : tie.Need-slice-aggregate-put-bytes
 slice-aggregate-put-bytes c = search needs
 
--- src/line.rt:37:5
 put-bytes-requires : tie.Need-put-bytes-requires
 unfolding hex2
 put-bytes-requires c κs =
@@ -31,7 +22,6 @@ put-bytes-requires c κs =
     let a = head .before .before .before .before .args in
     omega (arith, head .put-head .ensures .after, puts-length (head .put-head .ensures), head-length (a .n) (a .at), decimal-length (a .len), bem-length (a .command) (a .payload .now))
 
--- src/line.rt:38:5
 put-hex-requires : tie.Need-put-hex-requires
 unfolding hex2
 put-hex-requires c κs =
@@ -40,11 +30,9 @@ put-hex-requires c κs =
     let a = head .before .before .before .before .args in
     omega (arith, head .put-head .ensures .after, puts-length (head .put-head .ensures), kind .put-bytes .ensures .after, puts-length (kind .put-bytes .ensures), head-length (a .n) (a .at), decimal-length (a .len), bem-length (a .command) (a .payload .now))
 
--- src/line.rt:39:34
 slice-aggregate-put-number : tie.Need-slice-aggregate-put-number
 slice-aggregate-put-number c = search needs
 
--- src/line.rt:39:5
 put-number-requires : tie.Need-put-number-requires
 unfolding hex2
 put-number-requires c κs =
@@ -54,11 +42,9 @@ put-number-requires c κs =
     let a = head .before .before .before .before .args in
     omega (arith, head .put-head .ensures .after, puts-length (head .put-head .ensures), kind .put-bytes .ensures .after, puts-length (kind .put-bytes .ensures), hex .put-hex .ensures .after, puts-length (hex .put-hex .ensures), head-length (a .n) (a .at), decimal-length (a .len), bem-length (a .command) (a .payload .now))
 
--- src/line.rt:40:33
 slice-aggregate-put-bytes-2 : tie.Need-slice-aggregate-put-bytes-2
 slice-aggregate-put-bytes-2 c = search needs
 
--- src/line.rt:40:5
 put-bytes-requires-2 : tie.Need-put-bytes-requires-2
 unfolding hex2
 put-bytes-requires-2 c κs =
@@ -69,7 +55,6 @@ put-bytes-requires-2 c κs =
     let a = head .before .before .before .before .args in
     omega (arith, head .put-head .ensures .after, puts-length (head .put-head .ensures), kind .put-bytes .ensures .after, puts-length (kind .put-bytes .ensures), hex .put-hex .ensures .after, puts-length (hex .put-hex .ensures), len .put-number .ensures .after, puts-length (len .put-number .ensures), head-length (a .n) (a .at), decimal-length (a .len), bem-length (a .command) (a .payload .now))
 
--- src/line.rt:41:5
 put-bem-requires : tie.Need-put-bem-requires
 unfolding hex2
 put-bem-requires c κs =
@@ -81,11 +66,9 @@ put-bem-requires c κs =
     let a = head .before .before .before .before .args in
     omega (arith, head .put-head .ensures .after, puts-length (head .put-head .ensures), kind .put-bytes .ensures .after, puts-length (kind .put-bytes .ensures), hex .put-hex .ensures .after, puts-length (hex .put-hex .ensures), len .put-number .ensures .after, puts-length (len .put-number .ensures), key .put-bytes2 .ensures .after, puts-length (key .put-bytes2 .ensures), head-length (a .n) (a .at), decimal-length (a .len), bem-length (a .command) (a .payload .now))
 
--- src/line.rt:42:26
 slice-aggregate-put-bytes-3 : tie.Need-slice-aggregate-put-bytes-3
 slice-aggregate-put-bytes-3 c = search needs
 
--- src/line.rt:42:5
 put-bytes-requires-3 : tie.Need-put-bytes-requires-3
 unfolding hex2
 put-bytes-requires-3 c κs =
@@ -98,11 +81,9 @@ put-bytes-requires-3 c κs =
     let a = head .before .before .before .before .args in
     omega (arith, head .put-head .ensures .after, puts-length (head .put-head .ensures), kind .put-bytes .ensures .after, puts-length (kind .put-bytes .ensures), hex .put-hex .ensures .after, puts-length (hex .put-hex .ensures), len .put-number .ensures .after, puts-length (len .put-number .ensures), key .put-bytes2 .ensures .after, puts-length (key .put-bytes2 .ensures), bem .put-bem .ensures .after, puts-length (bem .put-bem .ensures), head-length (a .n) (a .at), decimal-length (a .len), bem-length (a .command) (a .payload .now))
 
--- src/line.rt:32:1
 same-length : tie.Need-same-length
 same-length c = search needs
 
--- src/line.rt:32:1
 returns : tie.Need-returns
 unfolding messageLine asciiFrom
 returns c =

@@ -1,14 +1,13 @@
-use mathlib.Core.Path.{_≡_, refl, sym, _∙_}
+-- `report::names::name_number` meets its contract. Assumes nothing.
 use Prim.Native.Nat.{_-_, _≤_}
 use native.Mathlib.Omega.{arith}
+use mathlib.Core.Path.{_≡_, refl, sym, _∙_}
+use borrow.Author.Needs.{needs}
 use lib.ListN.{drop}
 use Rattle.report.specs.Line.{table, lookup, nameOf}
 use Rattle.report.specs.LineLaws.{found, passed}
-use borrow.Author.Needs.{needs}
 use Rattle.report.proofs.names.name_number.Statement.{statement}
 use Rattle.report.proofs.names.name_number.Tie as tie
-use Rattle.report.proofs.names.name_number.Reads as reads
-use Rattle.report.proofs.names.name_number.Lts as lts
 
 abbrev Inv-loop : tie.InvT-loop
 Inv-loop reply i₀ i = (i ≤ 10) × (lookup (drop i table) reply ≡ nameOf reply)
@@ -16,40 +15,32 @@ Inv-loop reply i₀ i = (i ≤ 10) × (lookup (drop i table) reply ≡ nameOf re
 abbrev μ-loop : tie.MeasureT-loop
 μ-loop reply i₀ i = 10 - i
 
--- src/names.rt:35:5
 loop-holds : tie.Need-loop-holds Inv-loop μ-loop
 unfolding nameOf
 loop-holds c = (search needs, refl)
 
--- src/names.rt:36:17
 mul-e : tie.Need-mul-e Inv-loop μ-loop
 mul-e c = search needs
 
--- src/names.rt:36:17
 array-copy-out-e : tie.Need-array-copy-out-e Inv-loop μ-loop
 array-copy-out-e c = search needs
 
--- src/names.rt:38:13
 returns : tie.Need-returns Inv-loop μ-loop
 returns c =
     let v = c .before .before .before .before .loop in
     sym (found table (v .i) (c .before .before .before .before .before .args .reply) (record { reply = 0; name = 0 }) (search needs) (c .if1 .taken)) ∙ v .inv .1
 
--- src/names.rt:40:9
 add-i : tie.Need-add-i Inv-loop μ-loop
 add-i c = search needs
 
--- src/names.rt:35:5
 loop-less : tie.Need-loop-less Inv-loop μ-loop
 loop-less c = search needs
 
--- src/names.rt:35:5
 loop-again : tie.Need-loop-again Inv-loop μ-loop
 loop-again c =
     let v = c .before .before .before .before .loop in
     (search needs, sym (passed table (v .i) (c .before .before .before .before .before .args .reply) (record { reply = 0; name = 0 }) (search needs) (c .if1 .left)) ∙ v .inv .1)
 
--- src/names.rt:31:1
 returns-2 : tie.Need-returns-2 Inv-loop μ-loop
 returns-2 c =
     let e : c .before .loop .i ≡ 10 = omega arith in

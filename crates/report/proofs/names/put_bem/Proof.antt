@@ -1,66 +1,49 @@
+-- `report::names::put_bem` meets its contract. Assumes nothing.
 use mathlib.Core.Path.{ap, sym, _∙_}
+use borrow.Author.Needs.{needs}
 use Rattle.report.specs.Text.{asciiFrom}
 use Rattle.report.specs.Line.{nameText}
 use Rattle.report.specs.LineLaws.{bem-empty, bem-named, bem-none}
 use Rattle.report.specs.Puts.{puts-text}
-use borrow.Author.Needs.{needs}
 use Rattle.report.proofs.names.put_bem.Statement.{statement}
 use Rattle.report.proofs.names.put_bem.Tie as tie
-use Rattle.report.proofs.names.put_bem.Reads as reads
-use Rattle.report.proofs.names.put_bem.Lts as lts
-use Rattle.report.proofs.names.is_bem.Reads as is-bem-reads
-use Rattle.report.proofs.names.name_number.Reads as name-number-reads
-use Rattle.report.proofs.names.put_name.Reads as put-name-reads
-use Rattle.report.proofs.text.put_bytes.Reads as put-bytes-reads
 
--- src/names.rt:78:35
 slice-aggregate-put-bytes : tie.Need-slice-aggregate-put-bytes
 slice-aggregate-put-bytes c = search needs
 
--- src/names.rt:78:9
 put-bytes-requires : tie.Need-put-bytes-requires
 put-bytes-requires c κs = search needs
 
--- src/names.rt:78:9
 same-length : tie.Need-same-length
 same-length c = search needs
 
--- src/names.rt:78:9
 returns : tie.Need-returns
 unfolding asciiFrom
 returns c =
     let p = c .before .before in
     puts-text (sym (bem-empty _ _ (p .before .before .before .if1 .taken))) (p .put-bytes .ensures)
 
--- src/names.rt:80:8
 is-bem-requires : tie.Need-is-bem-requires
 is-bem-requires c κs = search needs
 
--- src/names.rt:81:39
 shared-slice-read-name-number : tie.Need-shared-slice-read-name-number
 shared-slice-read-name-number c = search needs
 
--- src/names.rt:81:27
 name-number-requires : tie.Need-name-number-requires
 name-number-requires c κs = search needs
 
--- src/names.rt:81:9
 put-name-requires : tie.Need-put-name-requires
 put-name-requires c κs = search needs
 
--- src/names.rt:83:28
 slice-aggregate-put-bytes-2 : tie.Need-slice-aggregate-put-bytes-2
 slice-aggregate-put-bytes-2 c = search needs
 
--- src/names.rt:83:9
 put-bytes-requires-2 : tie.Need-put-bytes-requires-2
 put-bytes-requires-2 c κs = search needs
 
--- src/names.rt:73:1
 same-length-2 : tie.Need-same-length-2
 same-length-2 c = search needs
 
--- src/names.rt:73:1
 returns-2 : tie.Need-returns-2
 returns-2 c =
     let p = c .before .before in
@@ -69,11 +52,9 @@ returns-2 c =
     let b = t .before in
     puts-text (ap nameText (n .name-number .ensures) ∙ sym (bem-named _ _ (b .before .if1 .left) (sym (b .is-bem .ensures) ∙ t .if2 .taken))) (p .put-name .ensures)
 
--- src/names.rt:73:1
 same-length-3 : tie.Need-same-length-3
 same-length-3 c = search needs
 
--- src/names.rt:73:1
 returns-3 : tie.Need-returns-3
 unfolding asciiFrom
 returns-3 c =

@@ -1,12 +1,13 @@
+-- `report::text::+put_decimal` meets its contract. Assumes nothing.
+use Prim.Native.Nat.{ℕ, _<_}
 use native.Mathlib.Omega.{arith}
 use mathlib.Core.Path.{ap}
+use borrow.Author.Needs.{needs}
+use borrow.Fn.Kinds.{In}
+use borrow.Fn.PlainCycle.{Measures, is, falls, and}
 use lib.ListN.{length}
 use Rattle.report.specs.TextLaws.{decimal-one, decimal-more, shorter}
 use Rattle.report.specs.Puts.{puts-one, puts-first, puts-length}
-use borrow.Author.Needs.{needs}
-use Prim.Native.Nat.{ℕ, _<_}
-use borrow.Fn.Kinds.{In}
-use borrow.Fn.PlainCycle.{Measures, is, falls, and}
 use Rattle.report.proofs.text.put_decimal.Reads as put-decimal
 use Rattle.report.proofs.text.put_decimal.Kinds as put-decimal-kinds
 use Rattle.report.proofs.text.+put_decimal.Lts-put_decimal as put-decimal-lts
@@ -24,21 +25,18 @@ abbrev put-decimal-below : ℕ → In 1 put-decimal-kinds.ps
 put-decimal-below t =
     and 1 put-decimal-kinds.ps (falls 1 put-decimal-kinds.ps _<_ μ-put-decimal t) put-decimal.Pre
 
--- src/text.rt:30:24
 put-decimal-cast-out : (t : ℕ) → put-decimal-lts.Need-cast-out (
   put-decimal-below t,
   put-decimal.Post,
 ) (put-decimal-at t) put-decimal.Post
 put-decimal-cast-out t c = search needs
 
--- src/text.rt:30:19
 put-decimal-add-out : (t : ℕ) → put-decimal-lts.Need-add-out (
   put-decimal-below t,
   put-decimal.Post,
 ) (put-decimal-at t) put-decimal.Post
 put-decimal-add-out t c = search needs
 
--- src/text.rt:30:9
 put-decimal-slice-write-out : (t : ℕ) → put-decimal-lts.Need-slice-write-out (
   put-decimal-below t,
   put-decimal.Post,
@@ -47,21 +45,18 @@ put-decimal-slice-write-out t c =
     let b = c .before .before in
     omega (arith, ap length (decimal-one (b .args .n) (c .if1 .taken)), b .pre .1)
 
--- src/text.rt:31:16
 put-decimal-add-result : (t : ℕ) → put-decimal-lts.Need-add-result (
   put-decimal-below t,
   put-decimal.Post,
 ) (put-decimal-at t) put-decimal.Post
 put-decimal-add-result t c = search needs
 
--- src/text.rt:31:9
 put-decimal-same-length : (t : ℕ) → put-decimal-lts.Need-same-length (
   put-decimal-below t,
   put-decimal.Post,
 ) (put-decimal-at t) put-decimal.Post
 put-decimal-same-length t c = search needs
 
--- src/text.rt:31:9
 put-decimal-returns : (t : ℕ) → put-decimal-lts.Need-returns (
   put-decimal-below t,
   put-decimal.Post,
@@ -70,7 +65,6 @@ put-decimal-returns t c =
     let b = c .before .before in
     rw (decimal-one (b .args .n) (c .if1 .taken)) (puts-first _ _ _)
 
--- src/text.rt:33:9
 put-decimal-put-decimal-requires : (t : ℕ) → put-decimal-lts.Need-put-decimal-requires (
   put-decimal-below t,
   put-decimal.Post,
@@ -79,21 +73,18 @@ put-decimal-put-decimal-requires t c κs =
     let b = c .before .before .before in
     (omega (arith, b .pre .0, c .before .if1 .left), omega (arith, b .pre .1, shorter (b .args .n) (search needs) (c .before .if1 .left)))
 
--- src/text.rt:34:22
 put-decimal-cast-out-2 : (t : ℕ) → put-decimal-lts.Need-cast-out-2 (
   put-decimal-below t,
   put-decimal.Post,
 ) (put-decimal-at t) put-decimal.Post
 put-decimal-cast-out-2 t c = search needs
 
--- src/text.rt:34:17
 put-decimal-add-out-2 : (t : ℕ) → put-decimal-lts.Need-add-out-2 (
   put-decimal-below t,
   put-decimal.Post,
 ) (put-decimal-at t) put-decimal.Post
 put-decimal-add-out-2 t c = search needs
 
--- src/text.rt:34:5
 put-decimal-slice-write-out-2 : (t : ℕ) → put-decimal-lts.Need-slice-write-out-2 (
   put-decimal-below t,
   put-decimal.Post,
@@ -103,7 +94,6 @@ put-decimal-slice-write-out-2 t c =
     let b = p .before .before .before .before in
     omega (arith, p .put-decimal .ensures .after, puts-length (p .put-decimal .ensures), b .pre .1, shorter (b .args .n) (search needs) (p .before .before .if1 .left))
 
--- src/text.rt:35:5
 put-decimal-add-result-2 : (t : ℕ) → put-decimal-lts.Need-add-result-2 (
   put-decimal-below t,
   put-decimal.Post,
@@ -113,14 +103,12 @@ put-decimal-add-result-2 t c =
     let b = p .before .before .before .before in
     omega (arith, p .put-decimal .ensures .after, b .pre .1, shorter (b .args .n) (search needs) (p .before .before .if1 .left), b .good)
 
--- src/text.rt:25:1
 put-decimal-same-length-2 : (t : ℕ) → put-decimal-lts.Need-same-length-2 (
   put-decimal-below t,
   put-decimal.Post,
 ) (put-decimal-at t) put-decimal.Post
 put-decimal-same-length-2 t c = search needs
 
--- src/text.rt:25:1
 put-decimal-returns-2 : (t : ℕ) → put-decimal-lts.Need-returns-2 (
   put-decimal-below t,
   put-decimal.Post,
