@@ -6,3 +6,5 @@ pub mod Line
 pub mod LineLaws
 pub mod Listing
 pub mod ListingLaws
+pub mod Calls
+pub mod Example

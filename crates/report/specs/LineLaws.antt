@@ -15,8 +15,10 @@ use Rattle.framing.specs.Decode.{Outcome, quiet, message, error, refused}
 use Rattle.report.specs.Text.{asciiFrom, ascii, decimal, hex2}
 use Rattle.report.specs.TextLaws.{decimal-length}
 use Rattle.report.specs.Puts.{Puts, puts-written}
-use Rattle.report.specs.Line.{lookup, nameOf, nameText, isBem, bemOf, headOf, messageLine, errorLine, lineOf, Lined, line-written, line-refused, lined}
+use Rattle.report.specs.Line.{lookup, nameOf, nameText, isBem, bemOf, headOf, messageLine, errorLine, lineOf, Lined, line-written, line-refused, toldLine, lined}
 use Rattle.report.specs.declared.names.ReplyName.{ReplyName}
+use Rattle.report.specs.declared.line.Line.{Line}
+use Rattle.report.specs.declared.line.Line.the-variants.{Written, Refused}
 
 -- a search in any table: the entry at a place is the one that is found, or the search goes on
 search-step : (t : List ReplyName) (i b : ℕ) (z : ReplyName) → i < length t
@@ -97,6 +99,20 @@ line-length n at quiet payload = omega arith
 line-length n at (message cmd len) payload = message-length n at cmd len payload
 line-length n at (error number values) payload = error-length n at number
 line-length n at (refused number) payload = error-length n at number
+
+-- an answer in the paper's terms tells the answer and the output: what a contract says by `toldLine` leaves neither open
+unfoldable pub lineBack : Lined → Line
+lineBack (line-written n out) = Written n
+lineBack (line-refused number out) = Refused number
+
+unfoldable pub lineOut : Lined → List ℕ
+lineOut (line-written n out) = out
+lineOut (line-refused number out) = out
+
+pub line-told : (r : Line) (out : List ℕ) → (lineBack (toldLine r out) ≡ r) × (lineOut (toldLine r out) ≡ out)
+unfolding lineBack lineOut
+line-told (Written n) out = (refl, refl)
+line-told (Refused number) out = (refl, refl)
 
 -- what a writer answers, case by case
 pub lined-7 : (n at : ℕ) (o : Outcome) (payload out : List ℕ) → length out < 128 → lined n at o payload out ≡ line-refused 7 out

@@ -37,7 +37,7 @@ module _ (n at : ℕ) (s : State) (bytes out : List ℕ) where
   unfolding listed
   listed-7 h = rw (lt-ltb (length out) 128 h)
 
-  listed-taken : 128 ≤ length out → listed n at s bytes out
+  pub listed-taken : 128 ≤ length out → listed n at s bytes out
       ≡ record {
         next = fed s bytes .next;
         n = numbered n (fed s bytes .outcome);
@@ -74,6 +74,20 @@ module _ (n at : ℕ) (s : State) (bytes out : List ℕ) where
 -- an answer that is known
 pub told-by : {r d : Listed} {buf out : List ℕ} {t : Turn} → r ≡ d → toldListed d buf out ≡ t → toldListed r buf out ≡ t
 told-by {r} {d} {buf} {out} {t} e h = rw e h
+
+-- what a call leaves tells the answer: a contract by `toldListed` leaves no part of it open
+unfoldable pub listedBack : Turn → Listed
+listedBack t =
+    record {
+      place = record { decoder = record { phase = t .next .phase; count = t .next .count }; n = t .n; at = t .at };
+      used = t .used;
+      len = t .len;
+      number = t .number;
+    }
+
+pub listed-told : (r : Listed) (buf out : List ℕ) → listedBack (toldListed r buf out) ≡ r
+unfolding listedBack
+listed-told r buf out = refl
 
 -- what a loop over the rest of the input and of the output goes by: it moves, and stays inside both
 pub listed-rest : (r : Listed) (buf new : List ℕ) (n at : ℕ) (s : State) (bytes out : List ℕ) (i m : ℕ)
