@@ -9,6 +9,7 @@ use Rattle.field.specs.Written.{written}
 use Rattle.framing.specs.Decode.{Outcome, State, Step, state, step, payloadOf}
 use Rattle.framing.specs.Feed.{Feed, fed, isQuiet}
 use Rattle.report.specs.Line.{lineOf}
+use Rattle.report.specs.declared.listing.Place.{Place}
 use Rattle.report.specs.declared.listing.Listed.{Listed}
 
 -- "prints a line per event, with no header: n (from 1), at (offset of last byte, from 0)": n is the next event's number, at the first byte's offset
@@ -29,10 +30,14 @@ pub record Turn : Type 0 where
   pub number : ℕ
   pub out : List ℕ
 
+-- the decoder of a place, with its buffer
+abbrev pub stateOf : Place → List ℕ → State
+stateOf p buf = state (p .decoder .phase) (p .decoder .count) buf
+
 abbrev pub toldListed : Listed → List ℕ → List ℕ → Turn
 toldListed r buf out =
     record {
-      next = state (r .place .decoder .phase) (r .place .decoder .count) buf;
+      next = stateOf (r .place) buf;
       n = r .place .n;
       at = r .place .at;
       used = r .used;

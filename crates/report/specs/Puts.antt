@@ -53,3 +53,12 @@ puts-two l i b c = record { stored = rw (add-one i); after = refl }
 -- the same text, named otherwise
 pub puts-text : {l o : List ℕ} {i n : ℕ} {xs ys : List ℕ} → xs ≡ ys → Puts l i xs o n → Puts l i ys o n
 puts-text {l} {o} {i} {n} {xs} {ys} e a = rw (sym e) a
+
+-- a place that is k at the most, in a slice with room for any line
+pub record Upto (l : List ℕ) (i k : ℕ) : Type 0 where
+  pub place : i ≤ k
+  pub room : 128 ≤ length l
+
+-- after m bytes more at the most
+pub upto-then : {l o : List ℕ} {i n k : ℕ} {xs : List ℕ} (m : ℕ) → Upto l i k → Puts l i xs o n → length xs ≤ m → Upto o n (k + m)
+upto-then {l} {o} {i} {n} {k} {xs} m u a h = record { place = omega (arith, u .place, a .after); room = omega (arith, u .room, puts-length a) }

@@ -8,7 +8,7 @@ use mathlib.Core.List.{List, [], _∷_, _++_}
 use borrow.Author.Tests.{lt-ltb, le-ltb, ltb-true, ltb-false}
 use lib.Dec.{ltb}
 use lib.ListN.{length, length-append}
-use Rattle.report.specs.Text.{digits, decimal, hexDigit, valueFrom, value}
+use Rattle.report.specs.Text.{digits, decimal, hexDigit, hex2, valueFrom, value}
 
 -- one digit
 pub digits-one : (k n : ℕ) → n < 10 → digits (suc k) n ≡ (48 + n) ∷ []
@@ -105,3 +105,7 @@ hex-low d h = rw (lt-ltb d 10 h)
 
 pub hex-high : (d : ℕ) → 10 ≤ d → hexDigit d ≡ 97 + (d - 10)
 hex-high d h = rw (le-ltb d 10 h)
+
+pub hex-length : (b : ℕ) → length (hex2 b) ≤ 2
+unfolding hex2
+hex-length b = omega arith

@@ -29,6 +29,7 @@ fn put_head(out: &mut [u8], n: u64, at: u64) -> usize
     put_number(out, next, b" at=", at)
 }
 
+// The line of a message.
 fn put_message(out: &mut [u8], n: u64, at: u64, command: u8, len: usize, payload: &[u8]) -> usize
     requires { ⌜ 128 ≤ length (now out) ⌝ }
     ensures { λ r. ⌜ Puts (now (out .entry)) 0 (messageLine n at command len (now (payload .entry))) (now (out .exit)) r ⌝ }
@@ -42,6 +43,7 @@ fn put_message(out: &mut [u8], n: u64, at: u64, command: u8, len: usize, payload
     put_bytes(out, next, b"\n")
 }
 
+// The line of an error or a refusal.
 fn put_error(out: &mut [u8], n: u64, at: u64, number: u8) -> usize
     requires { ⌜ 128 ≤ length (now out) ⌝ }
     ensures { λ r. ⌜ Puts (now (out .entry)) 0 (errorLine n at number) (now (out .exit)) r ⌝ }

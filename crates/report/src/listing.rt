@@ -1,8 +1,7 @@
 // The listing of a byte stream: each call feeds bytes up to the first event and writes that event's line.
 ghost use mathlib.Core.Path.{_≡_};
-ghost use Rattle.framing.specs.Decode.{state};
 ghost use Rattle.framing.specs.declared.Phase.{Phase};
-ghost use Rattle.report.specs.Listing.{toldListed, listed};
+ghost use Rattle.report.specs.Listing.{stateOf, toldListed, listed};
 use crate::line::LINE_ROOM;
 use crate::line::put_line;
 use framing::Decoder;
@@ -35,6 +34,7 @@ impl Place {
     }
 }
 
+// The answer of a call that was not refused.
 fn answer(decoder: Decoder, n: u64, at: u64, used: usize, len: usize) -> Listed
     ensures { λ r. ⌜ r ≡ record { place = record { decoder = decoder; n = n; at = at }; used = used; len = len; number = 0 } ⌝ }
 {
@@ -49,7 +49,7 @@ fn answer(decoder: Decoder, n: u64, at: u64, used: usize, len: usize) -> Listed
 // Feeds bytes up to and with the one that gives an event, and writes the event's line to the start of out.
 // Refuses with 7 an out under 128 bytes.
 pub fn list_bytes(place: Place, buf: &mut [u8], bytes: &[u8], out: &mut [u8]) -> Listed
-    ensures { λ r. ⌜ toldListed r (now (buf .exit)) (now (out .exit)) ≡ listed (place .n) (place .at) (state (place .decoder .phase) (place .decoder .count) (now (buf .entry))) (now (bytes .entry)) (now (out .entry)) ⌝ }
+    ensures { λ r. ⌜ toldListed r (now (buf .exit)) (now (out .exit)) ≡ listed (place .n) (place .at) (stateOf place (now (buf .entry))) (now (bytes .entry)) (now (out .entry)) ⌝ }
 {
     if out.len() < LINE_ROOM {
         return Listed {
