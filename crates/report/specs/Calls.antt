@@ -9,7 +9,7 @@ use lib.ListN.{length, take, drop, length-drop}
 use Rattle.field.specs.Pick.{pick}
 use Rattle.field.specs.WrittenLaws.{written-length}
 use Rattle.framing.specs.Decode.{State, payloadOf}
-use Rattle.framing.specs.Feed.{Feed, fed, isQuiet}
+use Rattle.framing.specs.Feed.{fed, isQuiet}
 use Rattle.framing.specs.FeedLaws.{fed-some, fed-bound}
 use Rattle.report.specs.LineLaws.{line-length}
 use Rattle.report.specs.Listing.{listing, Turn, fedLine, listed}

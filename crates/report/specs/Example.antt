@@ -1,5 +1,5 @@
 -- The example of document 01: the listing of 10 02 A1 01 41 1D 10 03 10 03 is the two lines printed there. Assumes nothing.
-use Prim.Native.Nat.{ℕ, _+_, _-_, _≤_}
+use Prim.Native.Nat.{ℕ, _≤_}
 use native.Mathlib.Omega.{arith}
 use mathlib.Core.Path.{_≡_, refl, ap, sym, _∙_}
 use mathlib.Core.List.{List, [], _∷_, _++_}
@@ -9,8 +9,8 @@ use lib.Seq.{sets, length-sets}
 use borrow.Author.Needs.{needs}
 use Rattle.framing.specs.declared.Phase.the-variants.{Idle}
 use Rattle.framing.specs.Frame.{stuffed, stuff, sum, covered, checksum, body, framed, frame}
-use Rattle.framing.specs.Decode.{message, error, State, state, after, payloadOf}
-use Rattle.framing.specs.Feed.{Feed, fed}
+use Rattle.framing.specs.Decode.{message, error, State, state, payloadOf}
+use Rattle.framing.specs.Feed.{Feed}
 use Rattle.framing.specs.FeedTrip.{fed-last, fed-delivered}
 use Rattle.framing.specs.RoundTrip.{Ready, delivered}
 use Rattle.framing.specs.Rows.{rows}

@@ -2,9 +2,9 @@
 use Prim.Native.Nat.{ℕ, _+_, _≤_, _<_}
 use native.Mathlib.Numerals.{add-one}
 use native.Mathlib.Omega.{arith}
-use mathlib.Core.Path.{_≡_, refl, ap, sym, _∙_}
+use mathlib.Core.Path.{_≡_, refl, ap, _∙_}
 use mathlib.Core.Bool.{Bool, true, false}
-use mathlib.Core.List.{List, [], _∷_, _++_}
+use mathlib.Core.List.{List, [], _∷_}
 use borrow.Author.Tests.{lt-ltb, le-ltb, eq-eqb, ne-eqb}
 use lib.Dec.{eqb}
 use lib.ListN.{length, getD, drop, length-append}
@@ -12,7 +12,7 @@ use lib.Seq.{drop-cons}
 use Rattle.field.specs.Pick.{pick}
 use Rattle.field.specs.Written.{written}
 use Rattle.framing.specs.Decode.{Outcome, quiet, message, error, refused}
-use Rattle.report.specs.Text.{asciiFrom, ascii, decimal, hex2}
+use Rattle.report.specs.Text.{asciiFrom, ascii, hex2}
 use Rattle.report.specs.TextLaws.{decimal-length}
 use Rattle.report.specs.Puts.{Puts, puts-written}
 use Rattle.report.specs.Line.{lookup, nameOf, nameText, isBem, bemOf, headOf, messageLine, errorLine, lineOf, Lined, line-written, line-refused, toldLine, lined}

@@ -1,12 +1,11 @@
 -- The listing of a byte stream, and what one call of `list_bytes` does of it (document 01, "Edges and the proved rows"). Assumes nothing.
 use Prim.Native.Nat.{ℕ, _+_, _-_, _%_, _^_}
-use mathlib.Core.Bool.{Bool}
 use mathlib.Core.List.{List, [], _∷_, _++_}
 use lib.Dec.{ltb}
 use lib.ListN.{length}
 use Rattle.field.specs.Pick.{pick}
 use Rattle.field.specs.Written.{written}
-use Rattle.framing.specs.Decode.{Outcome, State, Step, state, step, payloadOf}
+use Rattle.framing.specs.Decode.{Outcome, State, state, step, payloadOf}
 use Rattle.framing.specs.Feed.{Feed, fed, isQuiet}
 use Rattle.report.specs.Line.{lineOf}
 use Rattle.report.specs.declared.listing.Place.{Place}

@@ -1,5 +1,5 @@
 -- What one call of `list_bytes` does, case by case; that repeated calls give the listing; and that a listing is cut at any byte. Assumes nothing.
-use Prim.Native.Nat.{ℕ, zero, suc, _+_, _-_, _%_, _^_, _≤_, _<_}
+use Prim.Native.Nat.{ℕ, _+_, _-_, _%_, _^_, _≤_, _<_}
 use native.Mathlib.Nat.{add-zero, add-comm, add-assoc, mod-eq-of-lt}
 use native.Mathlib.Numerals.{add-one}
 use native.Mathlib.Omega.{arith}
@@ -12,7 +12,7 @@ use lib.Seq.{take-append-seam, length-take-le}
 use Rattle.field.specs.Pick.{pick}
 use Rattle.field.specs.Written.{written}
 use Rattle.framing.specs.Decode.{Outcome, quiet, message, error, refused, State, Step, state, step, after, outcomeOf, payloadOf}
-use Rattle.framing.specs.Feed.{Feed, fed, toldFed, shift, isQuiet}
+use Rattle.framing.specs.Feed.{Feed, fed, toldFed, isQuiet}
 use Rattle.framing.specs.FeedLaws.{joined, fed-some, fed-bound}
 use Rattle.framing.specs.declared.Fed.{Fed}
 use Rattle.report.specs.Puts.{Puts, puts-written}

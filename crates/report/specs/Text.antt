@@ -1,6 +1,6 @@
 -- Text as bytes: literals, decimal numbers, hexadecimal bytes. Assumes nothing.
 use Prim.Native.Nat.{ℕ, zero, suc, _+_, _-_, _*_, _/_, _%_}
-use Prim.Native.Char.{Char, code}
+use Prim.Native.Char.{code}
 use Prim.Native.String.{String, len, charAt}
 use mathlib.Core.List.{List, [], _∷_, _++_}
 use lib.Dec.{ltb}

@@ -1,5 +1,5 @@
 // A line of the listing for each event.
-ghost use Prim.Native.Nat.{_+_, _≤_};
+ghost use Prim.Native.Nat.{_≤_};
 ghost use mathlib.Core.Path.{_≡_};
 ghost use lib.ListN.{length};
 ghost use Rattle.framing.specs.Decode.{outcomeOf};

@@ -1,8 +1,6 @@
 // The names of BEM replies: a table of ten reply bytes and the numbers of their names, and the text of each name.
 ghost use Prim.Native.Nat.{_+_, _≤_};
 ghost use mathlib.Core.Path.{_≡_};
-ghost use mathlib.Core.Bool.{_||_};
-ghost use lib.Dec.{eqb};
 ghost use lib.ListN.{length};
 ghost use Rattle.report.specs.Puts.{Puts};
 ghost use Rattle.report.specs.Line.{nameOf, nameText, isBem, bemOf};
