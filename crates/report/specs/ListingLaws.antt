@@ -7,13 +7,14 @@ use mathlib.Core.Path.{_≡_, refl, ap, sym, _∙_}
 use mathlib.Core.Bool.{Bool, true, false}
 use mathlib.Core.List.{List, [], _∷_, _++_, append-assoc}
 use borrow.Author.Tests.{lt-ltb, le-ltb}
-use lib.ListN.{length, take, drop, length-drop}
+use lib.ListN.{length, take, drop, length-drop, take-append-drop}
 use lib.Seq.{take-append-seam, length-take-le}
 use Rattle.field.specs.Pick.{pick}
 use Rattle.field.specs.Written.{written}
 use Rattle.framing.specs.Decode.{Outcome, quiet, message, error, refused, State, Step, state, step, after, outcomeOf, payloadOf}
 use Rattle.framing.specs.Feed.{Feed, fed, toldFed, isQuiet}
-use Rattle.framing.specs.FeedLaws.{joined, fed-some, fed-bound}
+use Rattle.framing.specs.FeedLaws.{joined, fed-some, fed-bound, fed-after}
+use Rattle.framing.specs.RoundTrip.{after-append}
 use Rattle.framing.specs.declared.Fed.{Fed}
 use Rattle.report.specs.Puts.{Puts, puts-written}
 use Rattle.report.specs.Line.{lineOf}
@@ -169,6 +170,29 @@ listing-append n at s (x ∷ xs) ys =
     chunk-step (isQuiet (step s x .outcome)) n at (events (step s x .next) xs) (length xs) (step s x) xs ys (after (step s x .next) xs)
     (λ k. listing-append k (at + 1) (step s x .next) xs ys)
     ∙ ap (λ (m : ℕ). listing n at s (x ∷ xs) ++ listing (n + events s (x ∷ xs)) (at + m) (after s (x ∷ xs)) ys) (add-comm 1 (length xs) ∙ add-one (length xs))
+
+events-step : (t : Bool) (b : ℕ) (bs : List ℕ) (f : Feed) (r : Step) → isQuiet (r .outcome) ≡ t
+    → events (r .next) bs ≡ pick (isQuiet (f .outcome)) 0 1 + events (f .next) (drop (f .used) bs)
+    → pick t (events (r .next) bs) (1 + events (r .next) bs)
+    ≡ pick (isQuiet (joined t f r .outcome)) 0 1 + events (joined t f r .next) (drop (joined t f r .used) (b ∷ bs))
+events-step true b bs f r q ih = ih ∙ rw (add-comm 1 (f .used), add-one (f .used))
+events-step false b bs f r q ih = rw q
+
+-- the events of what was fed up to the first, and of the rest
+pub events-fed : (s : State) (bytes : List ℕ)
+    → events s bytes ≡ pick (isQuiet (fed s bytes .outcome)) 0 1 + events (fed s bytes .next) (drop (fed s bytes .used) bytes)
+unfolding events fed
+events-fed s [] = refl
+events-fed s (b ∷ bs) =
+    events-step (isQuiet (step s b .outcome)) b bs (fed (step s b .next) bs) (step s b) refl (events-fed (step s b .next) bs)
+
+-- the state after all bytes, from that after the first event
+pub after-fed : (s : State) (bytes : List ℕ) → after s bytes ≡ after (fed s bytes .next) (drop (fed s bytes .used) bytes)
+after-fed s bytes =
+    let u = fed s bytes .used in
+    ap (after s) (sym (take-append-drop u bytes))
+    ∙ after-append s (take u bytes) (drop u bytes)
+    ∙ ap (λ (t : State). after t (drop u bytes)) (fed-after s bytes)
 
 -- while numbers and offsets stay below 2^64, what a call wrote is the listing's next line
 pub listed-listing : (n at : ℕ) (s : State) (bytes out : List ℕ) → 128 ≤ length out → n + 1 < 2 ^ 64 → at + length bytes < 2 ^ 64
