@@ -11,7 +11,7 @@ use lib.ListN.{length, take, drop, length-drop, take-append-drop}
 use lib.Seq.{take-append-seam, length-take-le}
 use Rattle.field.specs.Pick.{pick}
 use Rattle.field.specs.Written.{written}
-use Rattle.framing.specs.Decode.{Outcome, quiet, message, error, refused, State, Step, state, step, after, outcomeOf, payloadOf}
+use Rattle.framing.specs.Decode.{Outcome, quiet, message, error, refused, State, Step, step, after, outcomeOf, payloadOf}
 use Rattle.framing.specs.Feed.{Feed, fed, toldFed, isQuiet}
 use Rattle.framing.specs.FeedLaws.{joined, fed-some, fed-bound, fed-after}
 use Rattle.framing.specs.RoundTrip.{after-append}
@@ -54,7 +54,7 @@ module _ (n at : ℕ) (s : State) (bytes out : List ℕ) where
   -- no event: r and buf are what `push_bytes` left, w the next byte's offset
   pub listed-quiet : (r : Fed) (buf : List ℕ) {w : ℕ} → 128 ≤ length out → toldFed r buf ≡ fed s bytes → outcomeOf (r .event) ≡ quiet
       → w ≡ (at + r .used) % 2 ^ 64
-      → record { next = state (r .decoder .phase) (r .decoder .count) buf; n = n; at = w; used = r .used; len = 0; number = 0; out = out }
+      → record { next = toldFed r buf .next; n = n; at = w; used = r .used; len = 0; number = 0; out = out }
       ≡ listed n at s bytes out
   unfolding lineOf
   listed-quiet r buf {w} h e q p = sym (listed-taken h ∙ rw (← e, q, p))
@@ -63,7 +63,7 @@ module _ (n at : ℕ) (s : State) (bytes out : List ℕ) where
   pub listed-event : (r : Fed) (buf : List ℕ) {payload new : List ℕ} {w last m len : ℕ} → 128 ≤ length out → toldFed r buf ≡ fed s bytes
       → isQuiet (outcomeOf (r .event)) ≡ false → w ≡ (at + r .used) % 2 ^ 64 → (last + 1) % 2 ^ 64 ≡ w → last < 2 ^ 64
       → payload ≡ payloadOf (outcomeOf (r .event)) buf → Puts out 0 (lineOf n last (outcomeOf (r .event)) payload) new len → m ≡ (n + 1) % 2 ^ 64
-      → record { next = state (r .decoder .phase) (r .decoder .count) buf; n = m; at = w; used = r .used; len = len; number = 0; out = new }
+      → record { next = toldFed r buf .next; n = m; at = w; used = r .used; len = len; number = 0; out = new }
       ≡ listed n at s bytes out
   listed-event r buf {payload} {new} {w} {last} {m} {len} h e q p l b d u k =
       let used : 1 ≤ r .used = rw (ap (λ (f : Feed). f .used) e) (fed-event s bytes (sym (ap (λ (f : Feed). isQuiet (f .outcome)) e) ∙ q)) in
