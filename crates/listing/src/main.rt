@@ -1,0 +1,45 @@
+// Lists the events of an NGT-1 byte stream from standard input, a line for each. What a line says is proved in report; here bytes are only
+// read, handed on and written.
+ghost use Prim.Native.Nat.{_≤_};
+ghost use lib.ListN.{length};
+use libc::STDIN_FILENO;
+use libc::STDOUT_FILENO;
+use report::Place;
+
+// Lists a chunk of the input. Lines are collected in out, and written where it runs short of room for one more and at the chunk's end.
+fn list_chunk(start: Place, buf: &mut [u8], bytes: &[u8], out: &mut [u8]) -> Place
+    requires { ⌜ 128 ≤ length (now out) ⌝ }
+{
+    let mut place = start;
+    let mut i = 0;
+    let mut n = 0;
+    while i < bytes.len() {
+        if out.len() - n < report::LINE_ROOM {
+            io::write_all(STDOUT_FILENO, &out[..n]);
+            n = 0;
+        }
+        let r = report::list_bytes(place, buf, &bytes[i..], &mut out[n..]);
+        place = r.place;
+        i += r.used;
+        n += r.len;
+    }
+    io::write_all(STDOUT_FILENO, &out[..n]);
+    place
+}
+
+fn main() {
+    let mut buf = [0u8; 1024];
+    let mut input = io::large_buffer();
+    let mut out = io::large_buffer();
+    let mut place = Place::new();
+    let mut turns = u64::MAX;
+    while turns > 0 {
+        let got = libc::read(STDIN_FILENO, &mut input);
+        if got <= 0 {
+            return;
+        }
+        let n = io::count(got, &input);
+        place = list_chunk(place, &mut buf, &input[..n], &mut out);
+        turns -= 1;
+    }
+}

@@ -1,0 +1,21 @@
+-- `report::text::hex_digit` meets its contract. Assumes nothing.
+use mathlib.Core.Path.{sym}
+use borrow.Author.Needs.{needs}
+use Rattle.report.specs.TextLaws.{hex-low, hex-high}
+use Rattle.report.proofs.text.hex_digit.Statement.{statement}
+use Rattle.report.proofs.text.hex_digit.Tie as tie
+
+add-result : tie.Need-add-result
+add-result c = search needs
+
+add-result-2 : tie.Need-add-result-2
+add-result-2 c = search needs
+
+returns : tie.Need-returns
+returns c = sym (hex-low _ (c .if1 .taken))
+
+returns-2 : tie.Need-returns-2
+returns-2 c = sym (hex-high _ (c .if1 .left))
+
+pub hex-digit-spec : {M : Type 1} → statement M
+hex-digit-spec = tie.close (tie.spec add-result add-result-2 returns returns-2)

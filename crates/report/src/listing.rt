@@ -1,0 +1,80 @@
+// The listing of a byte stream: each call feeds bytes up to the first event and writes that event's line.
+ghost use mathlib.Core.Path.{_≡_};
+ghost use Rattle.framing.specs.declared.Phase.{Phase};
+ghost use Rattle.report.specs.Listing.{stateOf, toldListed, listed};
+use crate::line::LINE_ROOM;
+use crate::line::put_line;
+use framing::Decoder;
+use framing::Event;
+
+// Where a listing stands: the decoder, the next event's number and the next byte's offset, both counted modulo 2^64.
+pub struct Place {
+    pub decoder: Decoder,
+    pub n: u64,
+    pub at: u64,
+}
+
+// What a call did: where the listing stands now, how many bytes were used, how long the line is (0: no event), and the number of the refusal or 0.
+pub struct Listed {
+    pub place: Place,
+    pub used: usize,
+    pub len: usize,
+    pub number: u8,
+}
+
+impl Place {
+    pub fn new() -> Place
+        ensures { λ r. ⌜ r ≡ record { decoder = record { phase = Phase.Idle; count = 0 }; n = 1; at = 0 } ⌝ }
+    {
+        Place {
+            decoder: Decoder::new(),
+            n: 1,
+            at: 0,
+        }
+    }
+}
+
+// The answer of a call that was not refused.
+fn answer(decoder: Decoder, n: u64, at: u64, used: usize, len: usize) -> Listed
+    ensures { λ r. ⌜ r ≡ record { place = record { decoder = decoder; n = n; at = at }; used = used; len = len; number = 0 } ⌝ }
+{
+    Listed {
+        place: Place { decoder, n, at },
+        used,
+        len,
+        number: 0,
+    }
+}
+
+// Feeds bytes up to and with the one that gives an event, and writes the event's line to the start of out.
+// Refuses with 7 an out under 128 bytes.
+pub fn list_bytes(place: Place, buf: &mut [u8], bytes: &[u8], out: &mut [u8]) -> Listed
+    ensures { λ r. ⌜ toldListed r (now (buf .exit)) (now (out .exit)) ≡ listed (place .n) (place .at) (stateOf place (now (buf .entry))) (now (bytes .entry)) (now (out .entry)) ⌝ }
+{
+    if out.len() < LINE_ROOM {
+        return Listed {
+            place,
+            used: 0,
+            len: 0,
+            number: 7,
+        };
+    }
+    let first = place.decoder;
+    let fed = first.push_bytes(buf, bytes);
+    let decoder = fed.decoder;
+    let event = fed.event;
+    let used = fed.used;
+    let at = std::num::wrapping_add_u64(place.at, used as u64);
+    if let Event::Quiet = event {
+        return answer(decoder, place.n, at, used, 0);
+    }
+    let last = std::num::wrapping_sub_u64(at, 1);
+    let len = put_line(out, place.n, last, event, framing::payload(buf, event));
+    answer(
+        decoder,
+        std::num::wrapping_add_u64(place.n, 1),
+        at,
+        used,
+        len,
+    )
+}
