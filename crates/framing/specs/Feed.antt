@@ -1,6 +1,7 @@
 -- Bytes fed up to the first event. Assumes nothing.
-use Prim.Native.Nat.{ℕ, _+_}
+use Prim.Native.Nat.{ℕ, _+_, _≤_}
 use mathlib.Core.Bool.{Bool, true, false}
+use lib.ListN.{length}
 use Rattle.field.specs.Pick.{pick}
 use mathlib.Core.List.{List, [], _∷_}
 use Rattle.framing.specs.Unstuff.{State, state}
@@ -39,3 +40,8 @@ fed s [] = record { next = s; used = 0; outcome = quiet }
 fed s (b ∷ bs) =
     pick (isQuiet (step s b .outcome)) (shift 1 (fed (step s b .next) bs))
     (record { next = step s b .next; used = taken (step s b .outcome); outcome = step s b .outcome })
+
+-- a state that is not refused: its count and its buffer pass the tests for 16 and 7
+pub record Formed (s : State) : Type 0 where
+  pub small : s .count ≤ 1024
+  pub room : 1024 ≤ length (s .buffer)

@@ -113,7 +113,7 @@ astray-takes : (n : ℕ) (buf : List ℕ) (b : ℕ) → Takes (astray n buf b)
 unfolding astray
 astray-takes n buf b = either-takes (eqb b 0x10) _ _ refl (either-takes (eqb b 0x03) _ _ (closing-taken (take n buf)) refl)
 
-phase-takes : (p : Phase) (n : ℕ) (buf : List ℕ) (b : ℕ) → Takes (byPhase p n buf b)
+pub phase-takes : (p : Phase) (n : ℕ) (buf : List ℕ) (b : ℕ) → Takes (byPhase p n buf b)
 unfolding unstuff.byPhase
 phase-takes Idle n buf b = either-takes (eqb b 0x10) _ _ refl refl
 phase-takes InFrame n buf b = either-takes (eqb b 0x10) _ _ refl (collected-takes n buf b)
