@@ -8,7 +8,8 @@ use report::Place;
 
 // Lists a chunk of the input. Lines are collected in out, and written where it runs short of room for one more and at the chunk's end.
 fn list_chunk(start: Place, buf: &mut [u8], bytes: &[u8], out: &mut [u8]) -> Place
-    requires { ⌜ 128 ≤ length (now out) ⌝ }
+    requires { ⌜ (128 ≤ length (now out)) × (1024 ≤ length (now buf)) × (start .decoder .count ≤ 1024) ⌝ }
+    ensures { λ r. ⌜ r .decoder .count ≤ 1024 ⌝ }
 {
     let mut place = start;
     let mut i = 0;

@@ -7,4 +7,3 @@ pub mod LineLaws
 pub mod Listing
 pub mod ListingLaws
 pub mod Calls
-pub mod Example

@@ -1,7 +1,7 @@
 -- The listing of a byte stream, and what one call of `list_bytes` does of it (document 01, "Edges and the proved rows"). Assumes nothing.
 use Prim.Native.Nat.{ℕ, _+_, _-_, _%_, _^_}
 use mathlib.Core.List.{List, [], _∷_, _++_}
-use lib.Dec.{ltb}
+use lib.Dec.{ltb, eqb}
 use lib.ListN.{length}
 use Rattle.field.specs.Pick.{pick}
 use Rattle.field.specs.Written.{written}
@@ -53,11 +53,15 @@ numbered n o = pick (isQuiet o) n ((n + 1) % 2 ^ 64)
 abbrev pub fedLine : ℕ → ℕ → Feed → List ℕ
 fedLine n at f = lineOf n ((at + (f .used - 1)) % 2 ^ 64) (f .outcome) (payloadOf (f .outcome) (f .next .buffer))
 
--- 7: the output is under 128 bytes, and nothing is done; else bytes are fed up to the first event, and its line is written.
+-- 16: the decoder's count is over 1,024; 7: its buffer is under 1,024 bytes, or the output under 128; 0: none
+abbrev pub refusalOf : State → List ℕ → ℕ
+refusalOf s out = pick (ltb 1024 (s .count)) 16 (pick (ltb (length (s .buffer)) 1024) 7 (pick (ltb (length out) 128) 7 0))
+
+-- a refusal changes nothing; else bytes are fed up to the first event, and its line is written.
 -- Numbers and offsets are counted modulo 2^64
 unfoldable pub listed : ℕ → ℕ → State → List ℕ → List ℕ → Turn
 listed n at s bytes out =
-    pick (ltb (length out) 128) (record { next = s; n = n; at = at; used = 0; len = 0; number = 7; out = out })
+    pick (eqb (refusalOf s out) 0)
     (record {
       next = fed s bytes .next;
       n = numbered n (fed s bytes .outcome);
@@ -67,3 +71,4 @@ listed n at s bytes out =
       number = 0;
       out = written (fedLine n at (fed s bytes)) out;
     })
+    (record { next = s; n = n; at = at; used = 0; len = 0; number = refusalOf s out; out = out })

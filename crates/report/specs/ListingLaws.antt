@@ -7,14 +7,15 @@ use mathlib.Core.Path.{_≡_, refl, ap, sym, _∙_}
 use mathlib.Core.Bool.{Bool, true, false}
 use mathlib.Core.List.{List, [], _∷_, _++_, append-assoc}
 use borrow.Author.Tests.{lt-ltb, le-ltb}
-use lib.ListN.{length, take, drop, length-drop, take-append-drop}
+use lib.ListN.{length, take, drop, length-drop}
 use lib.Seq.{take-append-seam, length-take-le}
 use Rattle.field.specs.Pick.{pick}
 use Rattle.field.specs.Written.{written}
 use Rattle.framing.specs.Decode.{Outcome, quiet, message, error, refused, State, Step, step, after, outcomeOf, payloadOf}
-use Rattle.framing.specs.Feed.{Feed, fed, toldFed, isQuiet}
-use Rattle.framing.specs.FeedLaws.{joined, fed-some, fed-bound, fed-after}
-use Rattle.framing.specs.RoundTrip.{after-append}
+use Rattle.framing.specs.Feed.{Feed, fed, toldFed, isQuiet, taken, Formed}
+use Rattle.framing.specs.FeedLaws.{joined, fed-bound}
+use Rattle.framing.specs.Unstuff as unstuff
+use Rattle.framing.specs.FormedLaws.{step-formed, step-takes, fed-moves, fed-event, fed-formed}
 use Rattle.framing.specs.declared.Fed.{Fed}
 use Rattle.report.specs.Puts.{Puts, puts-written}
 use Rattle.report.specs.Line.{lineOf}
@@ -22,23 +23,27 @@ use Rattle.report.specs.LineLaws.{line-length}
 use Rattle.report.specs.Listing.{listing, Turn, toldListed, numbered, fedLine, listed}
 use Rattle.report.specs.declared.listing.Listed.{Listed}
 
--- an event has used a byte
-pub fed-event : (s : State) (bs : List ℕ) → isQuiet (fed s bs .outcome) ≡ false → 1 ≤ fed s bs .used
-unfolding fed
-fed-event s [] h = let z : _≡_ {A = ℕ} 0 1 = cc in absurd (omega arith)
-fed-event s (b ∷ bs) h = fed-some s (b ∷ bs) (omega arith)
-
 -- the number before a wrapped sum
 earlier : (x at used : ℕ) → x < 2 ^ 64 → 1 ≤ used → (x + 1) % 2 ^ 64 ≡ (at + used) % 2 ^ 64 → x ≡ (at + (used - 1)) % 2 ^ 64
 earlier x at used h k e = omega arith
 
 -- one call, case by case
 module _ (n at : ℕ) (s : State) (bytes out : List ℕ) where
-  pub listed-7 : length out < 128 → listed n at s bytes out ≡ record { next = s; n = n; at = at; used = 0; len = 0; number = 7; out = out }
+  pub listed-16 : 1024 < s .count → listed n at s bytes out ≡ record { next = s; n = n; at = at; used = 0; len = 0; number = 16; out = out }
   unfolding listed
-  listed-7 h = rw (lt-ltb (length out) 128 h)
+  listed-16 h = rw (lt-ltb 1024 (s .count) h)
 
-  pub listed-taken : 128 ≤ length out → listed n at s bytes out
+  pub listed-7 : s .count ≤ 1024 → length (s .buffer) < 1024
+      → listed n at s bytes out ≡ record { next = s; n = n; at = at; used = 0; len = 0; number = 7; out = out }
+  unfolding listed
+  listed-7 k h = rw (le-ltb 1024 (s .count) k, lt-ltb (length (s .buffer)) 1024 h)
+
+  pub listed-short : Formed s → length out < 128
+      → listed n at s bytes out ≡ record { next = s; n = n; at = at; used = 0; len = 0; number = 7; out = out }
+  unfolding listed
+  listed-short f h = rw (le-ltb 1024 (s .count) (f .small), le-ltb (length (s .buffer)) 1024 (f .room), lt-ltb (length out) 128 h)
+
+  pub listed-taken : Formed s → 128 ≤ length out → listed n at s bytes out
       ≡ record {
         next = fed s bytes .next;
         n = numbered n (fed s bytes .outcome);
@@ -49,28 +54,28 @@ module _ (n at : ℕ) (s : State) (bytes out : List ℕ) where
         out = written (fedLine n at (fed s bytes)) out;
       }
   unfolding listed
-  listed-taken h = rw (le-ltb (length out) 128 h)
+  listed-taken f h = rw (le-ltb 1024 (s .count) (f .small), le-ltb (length (s .buffer)) 1024 (f .room), le-ltb (length out) 128 h)
 
   -- no event: r and buf are what `push_bytes` left, w the next byte's offset
-  pub listed-quiet : (r : Fed) (buf : List ℕ) {w : ℕ} → 128 ≤ length out → toldFed r buf ≡ fed s bytes → outcomeOf (r .event) ≡ quiet
+  pub listed-quiet : (r : Fed) (buf : List ℕ) {w : ℕ} → Formed s → 128 ≤ length out → toldFed r buf ≡ fed s bytes → outcomeOf (r .event) ≡ quiet
       → w ≡ (at + r .used) % 2 ^ 64
       → record { next = toldFed r buf .next; n = n; at = w; used = r .used; len = 0; number = 0; out = out }
       ≡ listed n at s bytes out
   unfolding lineOf
-  listed-quiet r buf {w} h e q p = sym (listed-taken h ∙ rw (← e, q, p))
+  listed-quiet r buf {w} g h e q p = sym (listed-taken g h ∙ rw (← e, q, p))
 
   -- an event, whose line was put into the output
-  pub listed-event : (r : Fed) (buf : List ℕ) {payload new : List ℕ} {w last m len : ℕ} → 128 ≤ length out → toldFed r buf ≡ fed s bytes
+  pub listed-event : (r : Fed) (buf : List ℕ) {payload new : List ℕ} {w last m len : ℕ} → Formed s → 128 ≤ length out → toldFed r buf ≡ fed s bytes
       → isQuiet (outcomeOf (r .event)) ≡ false → w ≡ (at + r .used) % 2 ^ 64 → (last + 1) % 2 ^ 64 ≡ w → last < 2 ^ 64
       → payload ≡ payloadOf (outcomeOf (r .event)) buf → Puts out 0 (lineOf n last (outcomeOf (r .event)) payload) new len → m ≡ (n + 1) % 2 ^ 64
       → record { next = toldFed r buf .next; n = m; at = w; used = r .used; len = len; number = 0; out = new }
       ≡ listed n at s bytes out
-  listed-event r buf {payload} {new} {w} {last} {m} {len} h e q p l b d u k =
-      let used : 1 ≤ r .used = rw (ap (λ (f : Feed). f .used) e) (fed-event s bytes (sym (ap (λ (f : Feed). isQuiet (f .outcome)) e) ∙ q)) in
+  listed-event r buf {payload} {new} {w} {last} {m} {len} formed h e q p l b d u k =
+      let used : 1 ≤ r .used = rw (ap (λ (f : Feed). f .used) e) (fed-event s bytes formed (sym (ap (λ (f : Feed). isQuiet (f .outcome)) e) ∙ q)) in
       let place : last ≡ (at + (r .used - 1)) % 2 ^ 64 = earlier last at (r .used) b used (l ∙ p) in
       let f : len ≡ length (lineOf n last (outcomeOf (r .event)) payload) = omega (arith, u .after) in
       let g : new ≡ written (lineOf n last (outcomeOf (r .event)) payload) out = puts-written u (omega (arith, line-length n last (outcomeOf (r .event)) payload)) in
-      sym (listed-taken h ∙ rw (← e, q, p, g, f, d, k, place))
+      sym (listed-taken formed h ∙ rw (← e, q, p, g, f, d, k, place))
 
 -- an answer that is known
 pub told-by : {r d : Listed} {buf out : List ℕ} {t : Turn} → r ≡ d → toldListed d buf out ≡ t → toldListed r buf out ≡ t
@@ -90,23 +95,23 @@ pub listed-told : (r : Listed) (buf out : List ℕ) → listedBack (toldListed r
 unfolding listedBack
 listed-told r buf out = refl
 
--- what a loop over the rest of the input and of the output goes by: it moves, and stays inside both
-pub listed-rest : (r : Listed) (buf new : List ℕ) (n at : ℕ) (s : State) (bytes out : List ℕ) (i m : ℕ)
+-- what a loop over the rest of the input and of the output goes by: it moves, stays inside both, and the decoder stays well formed
+pub listed-rest : (r : Listed) (buf new : List ℕ) (n at : ℕ) (s : State) (bytes out : List ℕ) (i m : ℕ) → Formed s
     → toldListed r buf new ≡ listed n at s (take (length bytes - i) (drop i bytes)) (take (length out - m) (drop m out))
     → i < length bytes → m ≤ length out → 128 ≤ length out - m
-    → (1 ≤ r .used) × (i + r .used ≤ length bytes) × (m + r .len ≤ length out)
-listed-rest r buf new n at s bytes out i m e h k l =
+    → (1 ≤ r .used) × (i + r .used ≤ length bytes) × (m + r .len ≤ length out) × (r .place .decoder .count ≤ 1024)
+listed-rest r buf new n at s bytes out i m formed e h k l =
     let rest = take (length bytes - i) (drop i bytes) in
     let room = take (length out - m) (drop m out) in
     let c : length rest ≡ length bytes - i = length-take-le (length bytes - i) (drop i bytes) (rw length-drop (omega arith)) in
     let d : length room ≡ length out - m = length-take-le (length out - m) (drop m out) (rw length-drop (omega arith)) in
-    let g = e ∙ listed-taken n at s rest room (omega (arith, d)) in
+    let g = e ∙ listed-taken n at s rest room formed (omega (arith, d)) in
     let u : r .used ≡ fed s rest .used = ap (λ (t : Turn). t .used) g in
     let v : r .len ≡ length (fedLine n at (fed s rest)) = ap (λ (t : Turn). t .len) g in
     let f = fed s rest in
     let w : length (fedLine n at f) ≤ 105 =
     line-length n ((at + (f .used - 1)) % 2 ^ 64) (f .outcome) (payloadOf (f .outcome) (f .next .buffer)) in
-    (omega (arith, u, fed-some s rest (omega (arith, c))), omega (arith, u, c, fed-bound s rest), omega (arith, v, w))
+    (omega (arith, u, fed-moves s rest formed (omega (arith, c))), omega (arith, u, c, fed-bound s rest), omega (arith, v, w), omega (arith, ap (λ (t : Turn). t .next .count) g, fed-formed s rest formed .small))
 
 -- what was fed up to the first event: its line, and the listing of the rest
 abbrev pub turned : ℕ → ℕ → Feed → List ℕ → List ℕ
@@ -135,20 +140,21 @@ listStep t n at r bs =
     pick t (listing n (at + 1) (r .next) bs)
     (lineOf n at (r .outcome) (payloadOf (r .outcome) (r .next .buffer)) ++ listing (n + 1) (at + 1) (r .next) bs)
 
-turn-step : (t : Bool) (n at b : ℕ) (bs : List ℕ) (f : Feed) (r : Step) → isQuiet (r .outcome) ≡ t → (isQuiet (f .outcome) ≡ false → 1 ≤ f .used)
+turn-step : (t : Bool) (n at b : ℕ) (bs : List ℕ) (f : Feed) (r : Step) → isQuiet (r .outcome) ≡ t → taken (r .outcome) ≡ 1 → (isQuiet (f .outcome) ≡ false → 1 ≤ f .used)
     → listing n (at + 1) (r .next) bs ≡ turned n (at + 1) f bs → listStep t n at r bs ≡ turned n at (joined t f r) (b ∷ bs)
-turn-step true n at b bs f r q h ih =
+turn-step true n at b bs f r q u h ih =
     ih
     ∙ rw (same-place n at (f .used) (f .outcome) (payloadOf (f .outcome) (f .next .buffer)) h, add-assoc at 1 (f .used), add-comm 1 (f .used), add-one (f .used))
-turn-step false n at b bs f r q h ih = rw (q, add-zero at)
+turn-step false n at b bs f r q u h ih = rw (u, q, add-zero at)
 
 -- a call gives the line of its event, and the calls after it the rest
-pub listing-fed : (n at : ℕ) (s : State) (bytes : List ℕ) → listing n at s bytes ≡ turned n at (fed s bytes) bytes
+pub listing-fed : (n at : ℕ) (s : State) (bytes : List ℕ) → Formed s → listing n at s bytes ≡ turned n at (fed s bytes) bytes
 unfolding listing fed lineOf
-listing-fed n at s [] = refl
-listing-fed n at s (b ∷ bs) =
-    turn-step (isQuiet (step s b .outcome)) n at b bs (fed (step s b .next) bs) (step s b) refl (fed-event (step s b .next) bs)
-    (listing-fed n (at + 1) (step s b .next) bs)
+listing-fed n at s [] f = refl
+listing-fed n at s (b ∷ bs) f =
+    let g = step-formed s b f in
+    turn-step (isQuiet (step s b .outcome)) n at b bs (fed (step s b .next) bs) (step s b) refl (step-takes s b f) (fed-event (step s b .next) bs g)
+    (listing-fed n (at + 1) (step s b .next) bs g)
 
 -- how many events the bytes give
 unfoldable pub events : State → List ℕ → ℕ
@@ -164,44 +170,37 @@ chunk-step false n at k m r xs ys u ih = rw (ih (n + 1), ← add-assoc at 1 m, �
 -- the listing of bytes that come in two parts
 pub listing-append : (n at : ℕ) (s : State) (xs ys : List ℕ)
     → listing n at s (xs ++ ys) ≡ listing n at s xs ++ listing (n + events s xs) (at + length xs) (after s xs) ys
-unfolding listing events after
+unfolding listing events unstuff.after
 listing-append n at s [] ys = rw (add-zero n, add-zero at)
 listing-append n at s (x ∷ xs) ys =
     chunk-step (isQuiet (step s x .outcome)) n at (events (step s x .next) xs) (length xs) (step s x) xs ys (after (step s x .next) xs)
     (λ k. listing-append k (at + 1) (step s x .next) xs ys)
     ∙ ap (λ (m : ℕ). listing n at s (x ∷ xs) ++ listing (n + events s (x ∷ xs)) (at + m) (after s (x ∷ xs)) ys) (add-comm 1 (length xs) ∙ add-one (length xs))
 
-events-step : (t : Bool) (b : ℕ) (bs : List ℕ) (f : Feed) (r : Step) → isQuiet (r .outcome) ≡ t
+events-step : (t : Bool) (b : ℕ) (bs : List ℕ) (f : Feed) (r : Step) → isQuiet (r .outcome) ≡ t → taken (r .outcome) ≡ 1
     → events (r .next) bs ≡ pick (isQuiet (f .outcome)) 0 1 + events (f .next) (drop (f .used) bs)
     → pick t (events (r .next) bs) (1 + events (r .next) bs)
     ≡ pick (isQuiet (joined t f r .outcome)) 0 1 + events (joined t f r .next) (drop (joined t f r .used) (b ∷ bs))
-events-step true b bs f r q ih = ih ∙ rw (add-comm 1 (f .used), add-one (f .used))
-events-step false b bs f r q ih = rw q
+events-step true b bs f r q u ih = ih ∙ rw (add-comm 1 (f .used), add-one (f .used))
+events-step false b bs f r q u ih = rw (u, q)
 
 -- the events of what was fed up to the first, and of the rest
-pub events-fed : (s : State) (bytes : List ℕ)
+pub events-fed : (s : State) (bytes : List ℕ) → Formed s
     → events s bytes ≡ pick (isQuiet (fed s bytes .outcome)) 0 1 + events (fed s bytes .next) (drop (fed s bytes .used) bytes)
 unfolding events fed
-events-fed s [] = refl
-events-fed s (b ∷ bs) =
-    events-step (isQuiet (step s b .outcome)) b bs (fed (step s b .next) bs) (step s b) refl (events-fed (step s b .next) bs)
-
--- the state after all bytes, from that after the first event
-pub after-fed : (s : State) (bytes : List ℕ) → after s bytes ≡ after (fed s bytes .next) (drop (fed s bytes .used) bytes)
-after-fed s bytes =
-    let u = fed s bytes .used in
-    ap (after s) (sym (take-append-drop u bytes))
-    ∙ after-append s (take u bytes) (drop u bytes)
-    ∙ ap (λ (t : State). after t (drop u bytes)) (fed-after s bytes)
+events-fed s [] f = refl
+events-fed s (b ∷ bs) f =
+    events-step (isQuiet (step s b .outcome)) b bs (fed (step s b .next) bs) (step s b) refl (step-takes s b f)
+    (events-fed (step s b .next) bs (step-formed s b f))
 
 -- while numbers and offsets stay below 2^64, what a call wrote is the listing's next line
-pub listed-listing : (n at : ℕ) (s : State) (bytes out : List ℕ) → 128 ≤ length out → n + 1 < 2 ^ 64 → at + length bytes < 2 ^ 64
+pub listed-listing : (n at : ℕ) (s : State) (bytes out : List ℕ) → Formed s → 128 ≤ length out → n + 1 < 2 ^ 64 → at + length bytes < 2 ^ 64
     → let t = listed n at s bytes out in
     listing n at s bytes ≡ take (t .len) (t .out) ++ listing (t .n) (t .at) (t .next) (drop (t .used) bytes)
-listed-listing n at s bytes out h k l =
+listed-listing n at s bytes out formed h k l =
     let f = fed s bytes in
     let u : f .used ≤ length bytes = fed-bound s bytes in
     let e₁ : (n + 1) % 2 ^ 64 ≡ n + 1 = mod-eq-of-lt k in
     let e₂ : (at + f .used) % 2 ^ 64 ≡ at + f .used = omega arith in
     let e₃ : (at + (f .used - 1)) % 2 ^ 64 ≡ at + (f .used - 1) = omega arith in
-    listing-fed n at s bytes ∙ sym (rw (listed-taken n at s bytes out h, e₁, e₂, e₃, take-append-seam))
+    listing-fed n at s bytes formed ∙ sym (rw (listed-taken n at s bytes out formed h, e₁, e₂, e₃, take-append-seam))

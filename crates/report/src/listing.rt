@@ -6,6 +6,7 @@ use crate::line::LINE_ROOM;
 use crate::line::put_line;
 use framing::Decoder;
 use framing::Event;
+use framing::MAX_COLLECT;
 
 // Where a listing stands: the decoder, the next event's number and the next byte's offset, both counted modulo 2^64.
 pub struct Place {
@@ -46,20 +47,32 @@ fn answer(decoder: Decoder, n: u64, at: u64, used: usize, len: usize) -> Listed
     }
 }
 
+fn refused(place: Place, number: u8) -> Listed
+    ensures { λ r. ⌜ r ≡ record { place = place; used = 0; len = 0; number = number } ⌝ }
+{
+    Listed {
+        place,
+        used: 0,
+        len: 0,
+        number,
+    }
+}
+
 // Feeds bytes up to and with the one that gives an event, and writes the event's line to the start of out.
-// Refuses with 7 an out under 128 bytes.
+// Refuses with 16 a decoder whose count is over 1,024, then with 7 a buf under 1,024 bytes or an out under 128; then nothing changes.
 pub fn list_bytes(place: Place, buf: &mut [u8], bytes: &[u8], out: &mut [u8]) -> Listed
     ensures { λ r. ⌜ toldListed r (now (buf .exit)) (now (out .exit)) ≡ listed (place .n) (place .at) (stateOf place (now (buf .entry))) (now (bytes .entry)) (now (out .entry)) ⌝ }
 {
-    if out.len() < LINE_ROOM {
-        return Listed {
-            place,
-            used: 0,
-            len: 0,
-            number: 7,
-        };
-    }
     let first = place.decoder;
+    if MAX_COLLECT < first.count {
+        return refused(place, 16);
+    }
+    if buf.len() < MAX_COLLECT {
+        return refused(place, 7);
+    }
+    if out.len() < LINE_ROOM {
+        return refused(place, 7);
+    }
     let fed = first.push_bytes(buf, bytes);
     let decoder = fed.decoder;
     let event = fed.event;

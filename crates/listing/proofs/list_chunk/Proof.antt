@@ -7,12 +7,14 @@ use borrow.Rule.Slice.PartMut.{same-len-mid}
 use borrow.Author.Needs.{needs}
 use lib.Seq.{length-take-le}
 use lib.ListN.{length}
+use Rattle.framing.specs.Feed.{Formed}
+use Rattle.report.specs.Listing.{stateOf}
 use Rattle.report.specs.ListingLaws.{listed-rest}
 use Rattle.listing.proofs.list_chunk.Statement.{statement}
 use Rattle.listing.proofs.list_chunk.Tie as tie
 
 abbrev Inv-loop : tie.InvT-loop
-Inv-loop buf₀ bytes out₀ place₀ i₀ n₀ buf out place i n = (i ≤ length bytes) × (n ≤ length out) × (length out ≡ length out₀) × (length buf ≡ length buf₀)
+Inv-loop buf₀ bytes out₀ place₀ i₀ n₀ buf out place i n = (i ≤ length bytes) × (n ≤ length out) × (length out ≡ length out₀) × (length buf ≡ length buf₀) × (place .decoder .count ≤ 1024)
 
 abbrev μ-loop : tie.MeasureT-loop
 μ-loop buf₀ bytes out₀ place₀ i₀ n₀ buf out place i n = length bytes - i
@@ -21,16 +23,20 @@ abbrev μ-loop : tie.MeasureT-loop
 room : (c : tie.Joined1 Inv-loop μ-loop) → (c .if1 .n ≤ length (c .before .before .loop .out)) × (128 ≤ length (c .before .before .loop .out) - c .if1 .n)
 room c = ⊎-elim (λ w. omega arith) (λ w. omega arith) (c .if1 .came)
 
+-- the decoder and its buffer are not refused
+formed : (c : tie.At-loop Inv-loop μ-loop) → Formed (stateOf (c .loop .place) (c .loop .buf))
+formed c = record { small = c .loop .inv .4; room = omega (arith, c .loop .inv .3) }
+
 -- the call moves, and stays inside
 moved : (c : tie.After-list-bytes Inv-loop μ-loop)
     → let j = c .before .before .before .before .before in
     let l = j .before .before in
     (1 ≤ c .list-bytes .result .used) × (l .loop .i + c .list-bytes .result .used ≤ length (l .before .before .before .before .args .bytes .now))
-    × (j .if1 .n + c .list-bytes .result .len ≤ length (l .loop .out))
+    × (j .if1 .n + c .list-bytes .result .len ≤ length (l .loop .out)) × (c .list-bytes .result .place .decoder .count ≤ 1024)
 moved c =
     let j = c .before .before .before .before .before in
     let l = j .before .before in
-    listed-rest (c .list-bytes .result) _ _ _ _ _ (l .before .before .before .before .args .bytes .now) (l .loop .out) (l .loop .i) (j .if1 .n) (c .list-bytes .ensures)
+    listed-rest (c .list-bytes .result) _ _ _ _ _ (l .before .before .before .before .args .bytes .now) (l .loop .out) (l .loop .i) (j .if1 .n) (formed l) (c .list-bytes .ensures)
     (j .before .loop-test .taken) (room j .0) (room j .1)
 
 loop-holds : tie.Need-loop-holds Inv-loop μ-loop
@@ -98,7 +104,7 @@ loop-again c =
     let j = r .before .before .before .before .before in
     let o = l .loop .out in
     let e = same-len-mid (j .if1 .n) (length o - j .if1 .n) o (r .list-bytes .last .1 .1 .1 .0) (r .list-bytes .kept .1 .1 .1 .0) in
-    (omega (arith, moved r), omega (arith, moved r, e), e ∙ l .loop .inv .2, search needs)
+    (omega (arith, moved r), omega (arith, moved r, e), e ∙ l .loop .inv .2, search needs, moved r .3)
 
 slice-reshare-prefix-write-all-2 : tie.Need-slice-reshare-prefix-write-all-2 Inv-loop μ-loop
 slice-reshare-prefix-write-all-2 c = search needs

@@ -1,12 +1,15 @@
 -- `listing::main` meets its contract. Assumes nothing.
-use mathlib.Core.Path.{_≡_}
+use Prim.Native.Nat.{_≤_}
+use native.Mathlib.Omega.{arith}
+use mathlib.Core.Path.{_≡_, ap}
 use borrow.Author.Needs.{needs}
 use lib.ListN.{length}
+use Rattle.report.specs.declared.listing.Place.{Place}
 use Rattle.listing.proofs.main.Statement.{statement}
 use Rattle.listing.proofs.main.Tie as tie
 
 abbrev Inv-loop : tie.InvT-loop
-Inv-loop buf₀ input₀ out₀ place₀ turns₀ buf input out place turns = (length buf ≡ 1024) × (length input ≡ 65536) × (length out ≡ 65536)
+Inv-loop buf₀ input₀ out₀ place₀ turns₀ buf input out place turns = (length buf ≡ 1024) × (length input ≡ 65536) × (length out ≡ 65536) × (place .decoder .count ≤ 1024)
 
 abbrev μ-loop : tie.MeasureT-loop
 μ-loop buf₀ input₀ out₀ place₀ turns₀ buf input out place turns = turns
@@ -21,7 +24,7 @@ new-requires : tie.Need-new-requires Inv-loop μ-loop
 new-requires c κs = search needs
 
 loop-holds : tie.Need-loop-holds Inv-loop μ-loop
-loop-holds c = search needs
+loop-holds c = (search needs, search needs, search needs, omega (arith, ap (λ (p : Place). p .decoder .count) (c .new .ensures)))
 
 slice-aggregate-read : tie.Need-slice-aggregate-read Inv-loop μ-loop
 slice-aggregate-read c = search needs

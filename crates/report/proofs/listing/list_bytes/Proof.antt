@@ -12,7 +12,7 @@ use Rattle.framing.specs.declared.Event.{Event}
 use Rattle.framing.specs.declared.Event.the-variants.{Quiet, Message, ShortMessage, BadChecksum, LengthMismatch, BadEscape, TooLong, Refused}
 use Rattle.framing.specs.Decode.{outcomeOf}
 use Rattle.framing.specs.Feed.{isQuiet}
-use Rattle.report.specs.ListingLaws.{listed-7, listed-quiet, listed-event, told-by}
+use Rattle.report.specs.ListingLaws.{listed-16, listed-7, listed-short, listed-quiet, listed-event, told-by}
 use Rattle.report.proofs.listing.list_bytes.Statement.{statement}
 use Rattle.report.proofs.listing.list_bytes.Tie as tie
 
@@ -30,8 +30,25 @@ not-quiet (BadEscape b) h = refl
 not-quiet TooLong h = refl
 not-quiet (Refused number) h = refl
 
+refused-requires : tie.Need-refused-requires
+refused-requires c κs = search needs
+
 returns : tie.Need-returns
-returns c = sym (listed-7 _ _ _ _ _ (c .if1 .taken))
+returns c = told-by (c .refused .ensures) (sym (listed-16 _ _ _ _ _ (c .before .if1 .taken)))
+
+refused-requires-2 : tie.Need-refused-requires-2
+refused-requires-2 c κs = search needs
+
+returns-2 : tie.Need-returns-2
+returns-2 c = told-by (c .refused2 .ensures) (sym (listed-7 _ _ _ _ _ (c .before .before .if1 .left) (c .before .if2 .taken)))
+
+refused-requires-3 : tie.Need-refused-requires-3
+refused-requires-3 c κs = search needs
+
+returns-3 : tie.Need-returns-3
+returns-3 c =
+    let e = c .before .before in
+    told-by (c .refused3 .ensures) (sym (listed-short _ _ _ _ _ (record { small = e .before .if1 .left; room = e .if2 .left }) (c .before .if3 .taken)))
 
 push-bytes-requires : tie.Need-push-bytes-requires
 push-bytes-requires c κs = search needs
@@ -48,13 +65,15 @@ answer-requires c κs = search needs
 same-length : tie.Need-same-length
 same-length c = search needs
 
-returns-2 : tie.Need-returns-2
-returns-2 c =
+returns-4 : tie.Need-returns-4
+returns-4 c =
     let e = c .before in
     let w = e .before .before in
     let p = w .before .before .before .before in
+    let o = p .before .before in
     told-by (c .answer .ensures)
-    (listed-quiet _ _ _ _ _ (p .push-bytes .result) _ (p .before .before .before .if1 .left) (p .push-bytes .ensures) (ap outcomeOf (e .enum-told .given .1)) (w .wrapping-add-u64 .ensures))
+    (listed-quiet _ _ _ _ _ (p .push-bytes .result) _ (record { small = o .before .before .if1 .left; room = o .before .if2 .left }) (o .if3 .left) (p .push-bytes .ensures)
+    (ap outcomeOf (e .enum-told .given .1)) (w .wrapping-add-u64 .ensures))
 
 wrapping-sub-u64-requires : tie.Need-wrapping-sub-u64-requires
 wrapping-sub-u64-requires c κs = search needs
@@ -77,8 +96,8 @@ same-length-2 c = search needs
 same-length-3 : tie.Need-same-length-3
 same-length-3 c = search needs
 
-returns-3 : tie.Need-returns-3
-returns-3 c =
+returns-5 : tie.Need-returns-5
+returns-5 c =
     let m = c .before in
     let l = m .before .before .before in
     let y = l .before in
@@ -86,21 +105,28 @@ returns-3 c =
     let k = b .before in
     let w = k .before in
     let p = w .before .before .before .before in
+    let o = p .before .before in
     told-by (c .answer2 .ensures)
-    (listed-event _ _ _ _ _ (p .push-bytes .result) _ (p .before .before .before .if1 .left) (p .push-bytes .ensures) (not-quiet (p .push-bytes .result .event) (k .match .keys2)) (w .wrapping-add-u64 .ensures)
+    (listed-event _ _ _ _ _ (p .push-bytes .result) _ (record { small = o .before .before .if1 .left; room = o .before .if2 .left }) (o .if3 .left) (p .push-bytes .ensures)
+    (not-quiet (p .push-bytes .result .event) (k .match .keys2)) (w .wrapping-add-u64 .ensures)
     (b .wrapping-sub-u64 .ensures) (search needs) (y .payload .ensures) (l .put-line .ensures) (m .wrapping-add-u642 .ensures))
 
 pub list-bytes-spec : {M : Type 1} → statement M
 list-bytes-spec =
     tie.close
     (tie.spec
+    refused-requires
     returns
+    refused-requires-2
+    returns-2
+    refused-requires-3
+    returns-3
     push-bytes-requires
     wrapping-add-u64-requires
     enum-told
     answer-requires
     same-length
-    returns-2
+    returns-4
     wrapping-sub-u64-requires
     payload-requires
     put-line-requires
@@ -108,4 +134,4 @@ list-bytes-spec =
     answer-requires-2
     same-length-2
     same-length-3
-    returns-3)
+    returns-5)

@@ -1,4 +1,4 @@
--- The example of document 01: the listing of 10 02 A1 01 41 1D 10 03 10 03 is the two lines printed there. Assumes nothing.
+-- Document 01's example of the listing program: the listing of 10 02 A1 01 41 1D 10 03 10 03 is the two lines printed there. Assumes nothing.
 use Prim.Native.Nat.{ℕ, _≤_}
 use native.Mathlib.Omega.{arith}
 use mathlib.Core.Path.{_≡_, refl, ap, sym, _∙_}
@@ -9,22 +9,24 @@ use lib.Seq.{sets, length-sets}
 use borrow.Author.Needs.{needs}
 use Rattle.framing.specs.declared.Phase.the-variants.{Idle}
 use Rattle.framing.specs.Frame.{stuffed, stuff, sum, covered, checksum, body, framed, frame}
-use Rattle.framing.specs.Decode.{message, error, State, state, payloadOf}
+use Rattle.framing.specs.Decode.{base, message, error, State, state, payloadOf}
 use Rattle.framing.specs.Feed.{Feed}
-use Rattle.framing.specs.FeedTrip.{fed-last, fed-delivered}
-use Rattle.framing.specs.RoundTrip.{Ready, delivered}
-use Rattle.framing.specs.Rows.{rows}
+use Rattle.framing.specs.Agreement.{fed-last, fed-delivered}
+use Rattle.framing.specs.Stuffing.{Ready}
+use Rattle.framing.specs.Delivery.{delivered}
+use Rattle.framing.specs.FormedLaws.{new-formed}
+use Rattle.claims.specs.Rows.{rows}
 use Rattle.report.specs.Text.{asciiFrom, ascii, digits, decimal, hex2}
 use Rattle.report.specs.Line.{nameOf, nameText, bemOf, headOf, messageLine, errorLine, lineOf}
 use Rattle.report.specs.Listing.{listing}
 use Rattle.report.specs.ListingLaws.{turned, listing-fed}
 
 -- the second event: 10 03 while idle
 tail-line : (buf : List ℕ) → 1024 ≤ length buf → listing 2 8 (state Idle 0 buf) (0x10 ∷ 0x03 ∷ []) ≡ ascii "n=2 at=9 kind=err no=1\n"
 unfolding listing asciiFrom digits decimal headOf errorLine lineOf
 tail-line buf h =
-    listing-fed 2 8 (state Idle 0 buf) (0x10 ∷ 0x03 ∷ [])
-    ∙ ap (λ (f : Feed). turned 2 8 f (0x10 ∷ 0x03 ∷ [])) (fed-last (state Idle 0 buf) (0x10 ∷ 0x03 ∷ []) [] (error 1 []) 1 refl (rows buf h .short) refl)
+    listing-fed 2 8 (state Idle 0 buf) (0x10 ∷ 0x03 ∷ []) (new-formed buf h)
+    ∙ ap (λ (f : Feed). turned 2 8 f (0x10 ∷ 0x03 ∷ [])) (fed-last (state Idle 0 buf) (0x10 ∷ 0x03 ∷ []) [] (error 1 []) 1 refl (rows buf h .short) refl refl)
 
 head-line : lineOf 1 7 (message 0xA1 1) (0x41 ∷ []) ≡ ascii "n=1 at=7 kind=msg cmd=a1 len=1 bem=product-info\n"
 unfolding asciiFrom digits decimal hex2 nameOf nameText bemOf headOf messageLine lineOf
@@ -36,12 +38,12 @@ pub example : (buf : List ℕ) → 1024 ≤ length buf
 unfolding frame framed stuff stuffed body covered checksum sum
 example buf h =
     let s = state Idle 0 buf in
-    let r : Ready s = record { no-escape = inl refl; count-fits = search needs; buffer-fits = h } in
+    let r : Ready base s = record { no-escape = inl refl; count-fits = search needs; buffer-fits = h } in
     let bytes = frame 0xA1 (0x41 ∷ []) ++ (0x10 ∷ 0x03 ∷ []) in
     let last = sets buf 0 (body 0xA1 (0x41 ∷ [])) in
     let d = delivered s 0xA1 (0x41 ∷ []) r (omega arith) in
     let p : payloadOf (message 0xA1 1) last ≡ 0x41 ∷ [] = ap (λ (t : State). payloadOf (message 0xA1 1) (t .buffer)) (sym (d .ends)) ∙ d .holds in
-    listing-fed 1 0 s bytes
+    listing-fed 1 0 s bytes (new-formed buf h)
     ∙ ap (λ (f : Feed). turned 1 0 f bytes) (fed-delivered s 0xA1 (0x41 ∷ []) (0x10 ∷ 0x03 ∷ []) r (omega arith))
     ∙ ap (λ (l : List ℕ). lineOf 1 7 (message 0xA1 1) l ++ listing 2 8 (state Idle 0 last) (0x10 ∷ 0x03 ∷ [])) p
     ∙ ap (λ (l : List ℕ). l ++ listing 2 8 (state Idle 0 last) (0x10 ∷ 0x03 ∷ [])) head-line
