@@ -4,58 +4,22 @@ use native.Mathlib.Omega.{arith}
 use mathlib.Core.Path.{_≡_, refl, ap, sym, _∙_}
 use mathlib.Core.Bool.{Bool, true, false}
 use mathlib.Core.List.{List, [], _∷_}
-use borrow.Author.Tests.{ltb-true}
 use lib.ListN.{length, take, drop, length-set, take-append-drop}
-use lib.Dec.{eqb, ltb}
-use Rattle.field.specs.Pick.{pick}
 use Rattle.framing.specs.declared.Phase.{Phase}
-use Rattle.framing.specs.declared.Phase.the-variants.{Idle, InFrame, EscapeOutside, EscapeInside}
+use Rattle.framing.specs.declared.Phase.the-variants.{Idle}
 use Rattle.framing.specs.Unstuff as unstuff
-use Rattle.framing.specs.Unstuff.{State, state, to}
+use Rattle.framing.specs.Unstuff.{State, state}
 use Rattle.framing.specs.UnstuffLaws.{after-append}
-use Rattle.framing.specs.Decode.{Outcome, quiet, error, closing, astray, base, Step, step, byPhase, collected, after}
+use Rattle.framing.specs.Decode.{base, Step, step, byPhase, after}
 use Rattle.framing.specs.DecodeLaws.{step-taken}
 use Rattle.framing.specs.Feed.{Feed, fed, isQuiet, taken, Formed}
 use Rattle.framing.specs.FeedLaws.{joined, fed-some, fed-after}
-use Rattle.framing.specs.Given.{phase-takes}
+use Rattle.framing.specs.StepCases.{step-case, phase-case}
+use Rattle.framing.specs.Given.{closing-taken}
 
 -- a new decoder, over a buffer of 1,024 bytes or more
 pub new-formed : (buf : List ℕ) → 1024 ≤ length buf → Formed (state Idle 0 buf)
 new-formed buf h = record { small = omega arith; room = h }
-
-abbrev Keeps : Step → Type 0
-Keeps s = Formed (s .next)
-
-either-keeps : (t : Bool) (x y : Step) → (t ≡ true → Keeps x) → Keeps y → Keeps (pick t x y)
-either-keeps true x y g h = g refl
-either-keeps false x y g h = h
-
-module _ (n : ℕ) (buf : List ℕ) (small : n ≤ 1024) (room : 1024 ≤ length buf) where
-  kept : (p : Phase) (k : ℕ) (o : Outcome) → k ≤ 1024 → Keeps (to p k buf o)
-  kept p k o h = record { small = h; room = room }
-
-  collected-keeps : (b : ℕ) → Keeps (collected n buf b)
-  unfolding unstuff.collected
-  collected-keeps b =
-      either-keeps (ltb n 1024) _ _
-      (λ e. let h : n < 1024 = ltb-true _ _ e in record { small = omega arith; room = rw length-set room })
-      (kept Idle 0 (error 5 []) (omega arith))
-
-  astray-keeps : (b : ℕ) → Keeps (astray n buf b)
-  unfolding astray
-  astray-keeps b =
-      either-keeps (eqb b 0x10) _ _ (λ e. kept Idle n quiet small)
-      (either-keeps (eqb b 0x03) _ _ (λ e. kept Idle 0 (closing (take n buf)) (omega arith)) (kept Idle 0 quiet (omega arith)))
-
-  phase-keeps : (p : Phase) (b : ℕ) → Keeps (byPhase p n buf b)
-  unfolding unstuff.byPhase
-  phase-keeps Idle b = either-keeps (eqb b 0x10) _ _ (λ e. kept EscapeOutside n quiet small) (kept Idle n quiet small)
-  phase-keeps InFrame b = either-keeps (eqb b 0x10) _ _ (λ e. kept EscapeInside n quiet small) (collected-keeps b)
-  phase-keeps EscapeOutside b = either-keeps (eqb b 0x02) _ _ (λ e. kept InFrame 0 quiet (omega arith)) (astray-keeps b)
-  phase-keeps EscapeInside b =
-      either-keeps (eqb b 0x10) _ _ (λ e. collected-keeps b)
-      (either-keeps (eqb b 0x02) _ _ (λ e. kept InFrame 0 quiet (omega arith))
-      (either-keeps (eqb b 0x03) _ _ (λ e. kept Idle 0 (closing (take n buf)) (omega arith)) (kept Idle 0 (error 4 (b ∷ [])) (omega arith))))
 
 -- one byte
 module _ (s : State) (b : ℕ) (f : Formed s) where
@@ -63,10 +27,33 @@ module _ (s : State) (b : ℕ) (f : Formed s) where
   by-phase = step-taken (s .phase) (s .count) (s .buffer) b (f .small) (f .room)
 
   pub step-formed : Formed (step s b .next)
-  step-formed = rw by-phase (phase-keeps (s .count) (s .buffer) (f .small) (f .room) (s .phase) b)
+  step-formed =
+      step-case (λ (t : Step). Formed (t .next)) s b (kept (s .phase) (s .count) (f .small)) (kept (s .phase) (s .count) (f .small))
+      (record {
+        keeps = λ p. kept p (s .count) (f .small);
+        empties = λ p. kept p 0 (omega arith);
+        collects = λ h. record { small = omega arith; room = rw length-set (f .room) };
+        closes = kept Idle 0 (omega arith);
+        bad-escape = kept Idle 0 (omega arith);
+        too-long = kept Idle 0 (omega arith);
+      })
+    where
+      kept : (p : Phase) (k : ℕ) → k ≤ 1024 → Formed (state p k (s .buffer))
+      kept p k h = record { small = h; room = f .room }
 
   pub step-takes : taken (step s b .outcome) ≡ 1
-  step-takes = ap (λ (t : Step). taken (t .outcome)) by-phase ∙ phase-takes (s .phase) (s .count) (s .buffer) b
+  step-takes =
+      ap (λ (t : Step). taken (t .outcome)) by-phase
+      ∙ phase-case (λ (t : Step). taken (t .outcome) ≡ 1) (s .count) (s .buffer) b
+      (record {
+        keeps = λ p. refl;
+        empties = λ p. refl;
+        collects = λ h. refl;
+        closes = closing-taken (take (s .count) (s .buffer));
+        bad-escape = refl;
+        too-long = refl;
+      })
+      (s .phase)
 
 -- any bytes
 pub after-formed : (s : State) (bs : List ℕ) → Formed s → Formed (after s bs)

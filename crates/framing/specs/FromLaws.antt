@@ -1,22 +1,19 @@
 -- What each kind of byte does to what is left to feed. Assumes nothing.
-use Prim.Native.Nat.{ℕ, _+_, _-_, _%_, _≤_, _<_}
+use Prim.Native.Nat.{ℕ, _+_, _≤_, _<_}
 use native.Mathlib.Omega.{arith}
 use mathlib.Core.Path.{_≡_, refl, ap, sym, _∙_}
-use mathlib.Core.Bool.{Bool, true, false}
+use mathlib.Core.Bool.{true, false}
 use mathlib.Core.List.{List, [], _∷_}
 use lib.ListN.{length, drop, getD, take, set}
-use lib.Dec.{ltb, eqb}
-use Rattle.field.specs.Pick.{pick}
-use Rattle.framing.specs.Frame.{sum}
 use Rattle.framing.specs.declared.Phase.{Phase}
 use Rattle.framing.specs.declared.Phase.the-variants.{Idle, InFrame, EscapeOutside, EscapeInside}
 use Rattle.framing.specs.Unstuff.{State, state, to}
-use Rattle.framing.specs.Decode.{Outcome, quiet, message, error, refused, Step, step, closing, outcomeOf}
+use Rattle.framing.specs.Decode.{Outcome, quiet, error, refused, Step, step, closing, outcomeOf}
 use Rattle.framing.specs.declared.Event.{Event}
 use Rattle.framing.specs.declared.Fed.{Fed}
 use Rattle.framing.specs.DecodeLaws.{idle-dle, idle-other, frame-dle, frame-other, outside-dle, outside-stx, outside-etx, outside-other, inside-dle, inside-stx, inside-etx, inside-other, collected-more, collected-full, step-16, step-7, step-taken}
 use Rattle.framing.specs.Feed.{Feed, toldFed, fed, shift, isQuiet, taken}
-use Rattle.framing.specs.Given.{closing-taken}
+use Rattle.framing.specs.Given.{closing-taken, closing-loud}
 use Rattle.framing.specs.FeedLaws.{fed-start, fed-on, fed-stop, fed-end}
 use Rattle.framing.specs.From.{from}
 
@@ -36,21 +33,6 @@ module _ (s : State) (bytes : List ℕ) (i : ℕ) (t : Step) (h : i < length byt
 pub from-end : (s : State) (bytes : List ℕ) (i : ℕ) → length bytes ≤ i → from s i bytes ≡ record { next = s; used = i; outcome = quiet }
 unfolding from
 from-end s bytes i h = fed-end s bytes i (shift i (fed s (drop i bytes))) h refl
-
--- an event of a closed frame is loud
-either-loud : (t : Bool) (x y : Outcome) → isQuiet x ≡ false → isQuiet y ≡ false → isQuiet (pick t x y) ≡ false
-either-loud true x y p q = p
-either-loud false x y p q = q
-
-closing-loud : (l : List ℕ) → isQuiet (closing l) ≡ false
-unfolding closing
-closing-loud l =
-    let m = message (getD l 0 0) (length l - 3) in
-    let e = error 3 (getD l 1 0 ∷ (length l - 3) ∷ []) in
-    let a = pick (eqb (getD l 1 0) (length l - 3)) m e in
-    let c = pick (eqb (sum l % 256) 0) a (error 2 []) in
-    either-loud (ltb (length l) 3) (error 1 []) c refl
-    (either-loud (eqb (sum l % 256) 0) a (error 2 []) (either-loud (eqb (getD l 1 0) (length l - 3)) m e refl refl) refl)
 
 -- what a byte does, by phase
 module _ (n : ℕ) (buf bytes : List ℕ) (i : ℕ) (small : n ≤ 1024) (room : 1024 ≤ length buf) (h : i < length bytes) where
