@@ -24,7 +24,7 @@ struct Run {
 }
 
 // The event of a frame that is closed with this body.
-pub fn closed(body: &[u8]) -> Event
+fn closed(body: &[u8]) -> Event
     ensures { λ r. ⌜ outcomeOf r ≡ closing (now (body .entry)) ⌝ }
 {
     let n = body.len();
