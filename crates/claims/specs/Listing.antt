@@ -26,7 +26,7 @@ tail-line : (buf : List ℕ) → 1024 ≤ length buf → listing 2 8 (state Idle
 unfolding listing asciiFrom digits decimal headOf errorLine lineOf
 tail-line buf h =
     listing-fed 2 8 (state Idle 0 buf) (0x10 ∷ 0x03 ∷ []) (new-formed buf h)
-    ∙ ap (λ (f : Feed). turned 2 8 f (0x10 ∷ 0x03 ∷ [])) (fed-last (state Idle 0 buf) (0x10 ∷ 0x03 ∷ []) [] (error 1 []) 1 refl (rows buf h .short) refl refl)
+    ∙ ap (λ (f : Feed). turned 2 8 f (0x10 ∷ 0x03 ∷ [])) (fed-last (state Idle 0 buf) (0x10 ∷ 0x03 ∷ []) [] (error 1 []) 1 refl (rows buf h .short 0 (omega arith)) refl refl)
 
 head-line : lineOf 1 7 (message 0xA1 1) (0x41 ∷ []) ≡ ascii "n=1 at=7 kind=msg cmd=a1 len=1 bem=product-info\n"
 unfolding asciiFrom digits decimal hex2 nameOf nameText bemOf headOf messageLine lineOf
