@@ -42,5 +42,5 @@ run() {
 }
 
 run c cc -std=c99 -pedantic -Wall -Wextra -Werror -O2 -I bindings/c bindings/c/example.c "$lib" -o "$work/c"
-run rust rustc --edition 2021 -D warnings -O bindings/rust/example.rs -L target/staticlib -l static=ngt1 -o "$work/rust"
+run rust rustc --edition 2024 -D warnings -O bindings/rust/example.rs -L target/staticlib -l static=ngt1 -o "$work/rust"
 exit $status

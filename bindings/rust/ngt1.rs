@@ -1,7 +1,7 @@
 //! NGT-1 framing: messages into frames, bytes into events. Links with `libngt1.a`; `bindings/c/ngt1.h` says what the functions do.
 #![allow(dead_code)]
 
-extern "C" {
+unsafe extern "C" {
     fn ngt1_encode(
         cmd: u8,
         payload: *const u8,
