@@ -5,3 +5,4 @@ pub mod Pick
 pub mod Tests
 pub mod Written
 pub mod WrittenLaws
+pub mod Puts

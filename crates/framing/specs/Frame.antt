@@ -48,4 +48,4 @@ frame cmd payload = framed (body cmd payload)
 -- a frame by its parts, as the encoder's inner functions write it (`frame-wire`: the same)
 unfoldable pub wire : ℕ → ℕ → List ℕ → ℕ → List ℕ
 wire cmd len payload check =
-    0x10 ∷ 0x02 ∷ stuffed cmd ++ (stuffed len ++ (stuff payload ++ (stuffed check ++ (0x10 ∷ 0x03 ∷ []))))
+    (0x10 ∷ 0x02 ∷ []) ++ stuffed cmd ++ stuffed len ++ stuff payload ++ stuffed check ++ (0x10 ∷ 0x03 ∷ [])

@@ -7,11 +7,10 @@ use mathlib.Core.Path.{_≡_, refl, ap, sym, _∙_}
 use mathlib.Core.Bool.{Bool, true, false}
 use mathlib.Core.List.{List, [], _∷_, _++_, append-assoc, append-nil}
 use borrow.Author.Tests.{eq-eqb, ne-eqb}
-use lib.ListN.{length, take, drop, getD, set, length-append, take-append-drop}
-use lib.Seq.{sets, take-suc}
+use lib.ListN.{length, take, drop, getD, length-append, take-append-drop}
+use lib.Seq.{take-suc}
 use lib.Dec.{eqb}
 use Rattle.field.specs.Pick.{pick}
-use Rattle.field.specs.WrittenLaws.{sets-then}
 use Rattle.framing.specs.Frame.{stuffed, stuff, dles, sum, covered, checksum, body, framed, frame, wire}
 
 pub stuffed-dle : (b : ℕ) → b ≡ 0x10 → stuffed b ≡ b ∷ b ∷ []
@@ -125,22 +124,6 @@ pub wire-length : (cmd len : ℕ) (payload : List ℕ) (check : ℕ)
     → length (wire cmd len payload check) ≡ 4 + length (stuffed cmd) + length (stuffed len) + length (stuff payload) + length (stuffed check)
 unfolding wire
 wire-length cmd len payload check = simp length-append (omega arith)
-
--- the parts of a frame, stored one after the other from the start
-pub wire-sets : (cmd len : ℕ) (payload : List ℕ) (check : ℕ) (out : List ℕ) {o₁ o₂ o₃ o₄ : List ℕ} {n₁ n₂ n₃ n₄ : ℕ}
-    → o₁ ≡ sets (set (set out 0 0x10) 1 0x02) 2 (stuffed cmd) → n₁ ≡ 2 + length (stuffed cmd)
-    → o₂ ≡ sets o₁ n₁ (stuffed len) → n₂ ≡ n₁ + length (stuffed len)
-    → o₃ ≡ sets o₂ n₂ (stuff payload) → n₃ ≡ n₂ + length (stuff payload)
-    → o₄ ≡ sets o₃ n₃ (stuffed check) → n₄ ≡ n₃ + length (stuffed check)
-    → set (set o₄ n₄ 0x10) (n₄ + 1) 0x03 ≡ sets out 0 (wire cmd len payload check)
-unfolding wire
-wire-sets cmd len payload check out {o₁} {o₂} {o₃} {o₄} {n₁} {n₂} {n₃} {n₄} p₁ q₁ p₂ q₂ p₃ q₃ p₄ q₄ =
-    sym
-    (sets-then (stuffed cmd) (stuffed len ++ (stuff payload ++ (stuffed check ++ (0x10 ∷ 0x03 ∷ [])))) (set (set out 0 0x10) 1 0x02) o₁ 2 n₁ p₁ q₁
-    ∙ sets-then (stuffed len) (stuff payload ++ (stuffed check ++ (0x10 ∷ 0x03 ∷ []))) o₁ o₂ n₁ n₂ p₂ q₂
-    ∙ sets-then (stuff payload) (stuffed check ++ (0x10 ∷ 0x03 ∷ [])) o₂ o₃ n₂ n₃ p₃ q₃
-    ∙ sets-then (stuffed check) (0x10 ∷ 0x03 ∷ []) o₃ o₄ n₃ n₄ p₄ q₄
-    ∙ ap (λ (k : ℕ). set (set o₄ n₄ 0x10) k 0x03) (sym (add-one n₄)))
 
 -- a wrapping difference from 0
 wrapped-negative : (s k : ℕ) → s < 256 → k < 256 → (k + s) % 256 ≡ 0 → k ≡ (256 - s) % 256

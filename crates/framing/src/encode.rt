@@ -9,7 +9,7 @@ ghost use Prim.Native.Nat.{_+_, _≤_};
 ghost use mathlib.Core.List.{_∷_, []};
 ghost use lib.Dec.{leb};
 ghost use lib.ListN.{length};
-ghost use lib.Seq.{sets};
+ghost use Rattle.field.specs.Puts.{Puts};
 ghost use Rattle.framing.specs.Frame.{stuffed, stuff, dles, covered, checksum, wire};
 ghost use Rattle.framing.specs.Encode.{toldEncoded, encoded};
 
@@ -37,8 +37,7 @@ fn count_dles(s: &[u8]) -> usize
 // Writes b at the place at, doubled where it is DLE, and returns the place after it.
 fn write_stuffed(out: &mut [u8], at: usize, b: u8) -> usize
     requires { ⌜ at + length (stuffed b) ≤ length (now out) ⌝ }
-    ensures { λ r. ⌜ r ≡ at + length (stuffed b) ⌝ }
-    ensures { λ _. ⌜ now (out .exit) ≡ sets (now (out .entry)) at (stuffed b) ⌝ }
+    ensures { λ r. ⌜ Puts (now (out .entry)) at (stuffed b) (now (out .exit)) r ⌝ }
 {
     out[at] = b;
     if b == DLE {
@@ -52,8 +51,7 @@ fn write_stuffed(out: &mut [u8], at: usize, b: u8) -> usize
 // Writes the bytes of s, stuffed, from the place at on, and returns the place after them.
 fn write_all_stuffed(out: &mut [u8], at: usize, s: &[u8]) -> usize
     requires { ⌜ at + length (stuff (now s)) ≤ length (now out) ⌝ }
-    ensures { λ r. ⌜ r ≡ at + length (stuff (now (s .entry))) ⌝ }
-    ensures { λ _. ⌜ now (out .exit) ≡ sets (now (out .entry)) at (stuff (now (s .entry))) ⌝ }
+    ensures { λ r. ⌜ Puts (now (out .entry)) at (stuff (now (s .entry))) (now (out .exit)) r ⌝ }
 {
     let mut next = at;
     let mut i = 0;
@@ -67,8 +65,7 @@ fn write_all_stuffed(out: &mut [u8], at: usize, s: &[u8]) -> usize
 // Writes a frame of these parts from the start of out, and returns its length.
 fn write_frame(out: &mut [u8], cmd: u8, len: u8, payload: &[u8], check: u8) -> usize
     requires { ⌜ length (wire cmd len (now payload) check) ≤ length (now out) ⌝ }
-    ensures { λ r. ⌜ r ≡ length (wire cmd len (now (payload .entry)) check) ⌝ }
-    ensures { λ _. ⌜ now (out .exit) ≡ sets (now (out .entry)) 0 (wire cmd len (now (payload .entry)) check) ⌝ }
+    ensures { λ r. ⌜ Puts (now (out .entry)) 0 (wire cmd len (now (payload .entry)) check) (now (out .exit)) r ⌝ }
 {
     out[0] = DLE;
     out[1] = STX;

@@ -1,7 +1,7 @@
 -- The definitions that the contracts of report cite, and the laws about them.
 pub mod Text
 pub mod TextLaws
-pub mod Puts
+pub mod Room
 pub mod Line
 pub mod LineLaws
 pub mod Listing

@@ -14,7 +14,7 @@ use Rattle.field.specs.Written.{written}
 use Rattle.framing.specs.Decode.{Outcome, quiet, message, error, refused}
 use Rattle.report.specs.Text.{asciiFrom, ascii, hex2}
 use Rattle.report.specs.TextLaws.{decimal-length}
-use Rattle.report.specs.Puts.{Puts, puts-written}
+use Rattle.field.specs.Puts.{Puts, puts-written}
 use Rattle.report.specs.Line.{lookup, nameOf, nameText, isBem, bemOf, headOf, messageLine, errorLine, lineOf, Lined, line-written, line-refused, toldLine, lined}
 use Rattle.report.specs.declared.names.ReplyName.{ReplyName}
 use Rattle.report.specs.declared.line.Line.{Line}

@@ -17,7 +17,7 @@ use Rattle.framing.specs.FeedLaws.{joined, fed-bound}
 use Rattle.framing.specs.Unstuff as unstuff
 use Rattle.framing.specs.FormedLaws.{step-formed, step-takes, fed-moves, fed-event, fed-formed}
 use Rattle.framing.specs.declared.Fed.{Fed}
-use Rattle.report.specs.Puts.{Puts, puts-written}
+use Rattle.field.specs.Puts.{Puts, puts-written}
 use Rattle.report.specs.Line.{lineOf}
 use Rattle.report.specs.LineLaws.{line-length}
 use Rattle.report.specs.Listing.{listing, Turn, toldListed, numbered, fedLine, listed}

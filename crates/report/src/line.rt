@@ -3,7 +3,7 @@ ghost use Prim.Native.Nat.{_≤_};
 ghost use mathlib.Core.Path.{_≡_};
 ghost use lib.ListN.{length};
 ghost use Rattle.framing.specs.Decode.{outcomeOf};
-ghost use Rattle.report.specs.Puts.{Puts};
+ghost use Rattle.field.specs.Puts.{Puts};
 ghost use Rattle.report.specs.Line.{headOf, messageLine, errorLine, lineOf, toldLine, lined};
 use crate::names::put_bem;
 use crate::text::put_bytes;

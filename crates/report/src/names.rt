@@ -2,7 +2,7 @@
 ghost use Prim.Native.Nat.{_+_, _≤_};
 ghost use mathlib.Core.Path.{_≡_};
 ghost use lib.ListN.{length};
-ghost use Rattle.report.specs.Puts.{Puts};
+ghost use Rattle.field.specs.Puts.{Puts};
 ghost use Rattle.report.specs.Line.{nameOf, nameText, isBem, bemOf};
 use crate::text::put_bytes;
 

@@ -2,7 +2,7 @@
 ghost use Prim.Native.Nat.{_+_, _≤_};
 ghost use lib.ListN.{length};
 ghost use Rattle.report.specs.Text.{decimal, hex2, hexDigit};
-ghost use Rattle.report.specs.Puts.{Puts};
+ghost use Rattle.field.specs.Puts.{Puts};
 ghost use mathlib.Core.Path.{_≡_};
 ghost use mathlib.Core.List.{_++_};
 

@@ -44,7 +44,7 @@ least c =
     let a = w .before .before .before .before .args in
     let h : length (a .payload .now) + 7 ≤ length (wire (a .cmd) (length (a .payload .now)) (a .payload .now) (w .checksum-byte .result)) =
     wire-least (a .cmd) (length (a .payload .now)) (a .payload .now) (w .checksum-byte .result) in
-    omega (arith, c .write-frame .ensures .0)
+    omega (arith, c .write-frame .ensures .after)
 
 sub-t13 : tie.Need-sub-t13
 sub-t13 c = omega (arith, least (c .before .before))
@@ -64,7 +64,7 @@ returns-2 c =
     let a = w .before .before .before .before .args in
     let f : length (wire (a .cmd) (length (a .payload .now)) (a .payload .now) (w .checksum-byte .result)) ≤ length (a .out .now) = le-said _ _ (r .has-room .ensures) (e .if2 .taken) in
     encoded-by (a .cmd) (a .payload .now) (a .out .now) _ (w .before .if1 .left) (omega (arith, ap length (whole w), f))
-    (whole w) (k .write-frame .ensures .0) (k .write-frame .ensures .1)
+    (whole w) (k .write-frame .ensures)
 
 returns-3 : tie.Need-returns-3
 returns-3 c =

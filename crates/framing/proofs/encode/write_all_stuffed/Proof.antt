@@ -1,25 +1,25 @@
 -- `framing::write_all_stuffed` meets its contract. Assumes nothing.
-use Prim.Native.Nat.{_≤_, _<_, _+_, _-_}
+use Prim.Native.Nat.{_≤_, _<_, _-_}
 use native.Mathlib.Omega.{arith}
 use mathlib.Core.Path.{_≡_}
 use borrow.Author.Needs.{needs}
-use lib.Seq.{take-all, sets, length-sets}
-use lib.ListN.{length, take, length-append}
-use Rattle.field.specs.WrittenLaws.{sets-append}
+use lib.Seq.{take-all}
+use lib.ListN.{length, take}
+use Rattle.field.specs.Puts.{Puts, puts-none, puts-then, puts-length}
 use Rattle.framing.specs.FrameLaws.{stuff-take, stuff-room}
 use Rattle.framing.specs.Frame.{stuff}
 use Rattle.framing.proofs.encode.write_all_stuffed.Statement.{statement}
 use Rattle.framing.proofs.encode.write_all_stuffed.Tie as tie
 
 abbrev Inv-loop : tie.InvT-loop
-Inv-loop out₀ at s next₀ i₀ out next i = (i ≤ length s) × (next ≡ at + length (stuff (take i s))) × (out ≡ sets out₀ at (stuff (take i s)))
+Inv-loop out₀ at s next₀ i₀ out next i = (i ≤ length s) × Puts out₀ at (stuff (take i s)) out next
 
 abbrev μ-loop : tie.MeasureT-loop
 μ-loop out₀ at s next₀ i₀ out next i = length s - i
 
 loop-holds : tie.Need-loop-holds Inv-loop μ-loop
 unfolding stuff
-loop-holds c = (search needs, search needs, search needs)
+loop-holds c = (search needs, puts-none _ _)
 
 shared-slice-read-write-stuffed : tie.Need-shared-slice-read-write-stuffed Inv-loop μ-loop
 shared-slice-read-write-stuffed c = search needs
@@ -28,8 +28,8 @@ write-stuffed-requires : tie.Need-write-stuffed-requires Inv-loop μ-loop
 write-stuffed-requires c κs =
     let i = c .before .before .before .loop .i in
     let a = c .before .before .before .before .before .before .args in
-    let e : length (c .before .before .before .loop .out) ≡ length (a .out .now) = rw (c .before .before .before .loop .inv .2, length-sets) in
-    omega (arith, stuff-room (a .s .now) i (search needs))
+    let p = c .before .before .before .loop .inv .1 in
+    omega (arith, p .after, puts-length p, stuff-room (a .s .now) i (search needs))
 
 add-i : tie.Need-add-i Inv-loop μ-loop
 add-i c = search needs
@@ -43,21 +43,18 @@ loop-again c =
     let i = p .loop .i in
     let a = p .before .before .before .args in
     let s = a .s .now in
-    let h : i < length s = search needs in (
-      search needs,
-      rw (stuff-take, length-append) (omega arith),
-      rw (stuff-take, sets-append, ← p .loop .inv .2, ← p .loop .inv .1) (c .before .before .write-stuffed .ensures .1),
-    )
+    let h : i < length s = search needs in
+    (search needs, rw (stuff-take s i h) (puts-then (p .loop .inv .1) (c .before .before .write-stuffed .ensures)))
 
 same-length : tie.Need-same-length Inv-loop μ-loop
-same-length c = rw (c .before .loop .inv .2, length-sets)
+same-length c = puts-length (c .before .loop .inv .1)
 
 returns : tie.Need-returns Inv-loop μ-loop
 returns c =
     let s = c .before .before .before .before .args .s .now in
     let i = c .before .loop .i in
     let e : take i s ≡ s = take-all i s (search needs) in
-    (rw e at (c .before .loop .inv .1), rw e at (c .before .loop .inv .2))
+    rw e at (c .before .loop .inv .1)
 
 pub write-all-stuffed-spec : {M : Type 1} → statement M
 write-all-stuffed-spec =

@@ -1,8 +1,9 @@
 -- `framing::write_stuffed` meets its contract. Assumes nothing.
-use native.Mathlib.Numerals.{add-one}
 use native.Mathlib.Omega.{arith}
+use mathlib.Core.Path.{sym}
 use borrow.Author.Needs.{needs}
 use lib.ListN.{length-set}
+use Rattle.field.specs.Puts.{puts-same, puts-first, puts-two}
 use Rattle.framing.specs.FrameLaws.{stuffed-dle, stuffed-other, stuffed-bounds}
 use Rattle.framing.proofs.encode.write_stuffed.Statement.{statement}
 use Rattle.framing.proofs.encode.write_stuffed.Tie as tie
@@ -28,13 +29,13 @@ same-length : tie.Need-same-length
 same-length c = search needs
 
 returns : tie.Need-returns
-returns c = rw (stuffed-dle _ (c .if1 .taken)) (search needs, rw add-one)
+returns c = puts-same (sym (stuffed-dle _ (c .if1 .taken))) (puts-two _ _ _ _)
 
 same-length-2 : tie.Need-same-length-2
 same-length-2 c = search needs
 
 returns-2 : tie.Need-returns-2
-returns-2 c = rw (stuffed-other _ (c .if1 .left)) (search needs, search needs)
+returns-2 c = puts-same (sym (stuffed-other _ (c .if1 .left))) (puts-first _ _ _)
 
 pub write-stuffed-spec : {M : Type 1} → statement M
 write-stuffed-spec =

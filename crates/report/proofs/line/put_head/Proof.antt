@@ -4,7 +4,7 @@ use borrow.Author.Needs.{needs}
 use Rattle.report.specs.Text.{asciiFrom, ascii, decimal}
 use Rattle.report.specs.TextLaws.{decimal-length}
 use Rattle.report.specs.Line.{headOf}
-use Rattle.report.specs.Puts.{puts-both, puts-length}
+use Rattle.field.specs.Puts.{puts-both, puts-length}
 use Rattle.report.proofs.line.put_head.Statement.{statement}
 use Rattle.report.proofs.line.put_head.Tie as tie
 

@@ -6,7 +6,7 @@ use borrow.Author.Needs.{needs}
 use Rattle.framing.specs.declared.Event.{Event}
 use Rattle.framing.specs.Decode.{outcomeOf}
 use Rattle.report.specs.Line.{lineOf}
-use Rattle.report.specs.Puts.{puts-text, puts-none}
+use Rattle.field.specs.Puts.{puts-same, puts-none}
 use Rattle.report.proofs.line.put_line.Statement.{statement}
 use Rattle.report.proofs.line.put_line.Tie as tie
 
@@ -63,7 +63,7 @@ returns : tie.Need-returns
 unfolding lineOf
 returns c =
     let a = c .before .before .before .before .args in
-    puts-text (by-event (a .n) (a .at) (a .payload .now) (c .enum-told .given .1)) (puts-none _ _)
+    puts-same (by-event (a .n) (a .at) (a .payload .now) (c .enum-told .given .1)) (puts-none _ _)
 
 same-length : tie.Need-same-length
 same-length c = search needs
@@ -74,7 +74,7 @@ returns-2 c =
     let p = c .before .before in
     let e = p .before .before .before in
     let a = e .before .before .before .before .args in
-    puts-text (by-event (a .n) (a .at) (a .payload .now) (e .event .given .1)) (p .put-message .ensures)
+    puts-same (by-event (a .n) (a .at) (a .payload .now) (e .event .given .1)) (p .put-message .ensures)
 
 same-length-2 : tie.Need-same-length-2
 same-length-2 c = search needs
@@ -85,7 +85,7 @@ returns-3 c =
     let p = c .before .before in
     let e = p .before .before in
     let a = e .before .before .before .before .args in
-    puts-text (by-event (a .n) (a .at) (a .payload .now) (e .enum-told2 .given .1)) (p .put-error .ensures)
+    puts-same (by-event (a .n) (a .at) (a .payload .now) (e .enum-told2 .given .1)) (p .put-error .ensures)
 
 same-length-3 : tie.Need-same-length-3
 same-length-3 c = search needs
@@ -96,7 +96,7 @@ returns-4 c =
     let p = c .before .before in
     let e = p .before .before in
     let a = e .before .before .before .before .args in
-    puts-text (by-event (a .n) (a .at) (a .payload .now) (e .enum-told3 .given .1)) (p .put-error2 .ensures)
+    puts-same (by-event (a .n) (a .at) (a .payload .now) (e .enum-told3 .given .1)) (p .put-error2 .ensures)
 
 same-length-4 : tie.Need-same-length-4
 same-length-4 c = search needs
@@ -107,7 +107,7 @@ returns-5 c =
     let p = c .before .before in
     let e = p .before .before in
     let a = e .before .before .before .before .args in
-    puts-text (by-event (a .n) (a .at) (a .payload .now) (e .enum-told4 .given .1)) (p .put-error3 .ensures)
+    puts-same (by-event (a .n) (a .at) (a .payload .now) (e .enum-told4 .given .1)) (p .put-error3 .ensures)
 
 same-length-5 : tie.Need-same-length-5
 same-length-5 c = search needs
@@ -118,7 +118,7 @@ returns-6 c =
     let p = c .before .before in
     let e = p .before .before in
     let a = e .before .before .before .before .args in
-    puts-text (by-event (a .n) (a .at) (a .payload .now) (e .enum-told5 .given .1)) (p .put-error4 .ensures)
+    puts-same (by-event (a .n) (a .at) (a .payload .now) (e .enum-told5 .given .1)) (p .put-error4 .ensures)
 
 same-length-6 : tie.Need-same-length-6
 same-length-6 c = search needs
@@ -129,7 +129,7 @@ returns-7 c =
     let p = c .before .before in
     let e = p .before .before in
     let a = e .before .before .before .before .args in
-    puts-text (by-event (a .n) (a .at) (a .payload .now) (e .enum-told6 .given .1)) (p .put-error5 .ensures)
+    puts-same (by-event (a .n) (a .at) (a .payload .now) (e .enum-told6 .given .1)) (p .put-error5 .ensures)
 
 same-length-7 : tie.Need-same-length-7
 same-length-7 c = search needs
@@ -140,7 +140,7 @@ returns-8 c =
     let p = c .before .before in
     let e = p .before .before .before in
     let a = e .before .before .before .before .args in
-    puts-text (by-event (a .n) (a .at) (a .payload .now) (e .event2 .given .1)) (p .put-error6 .ensures)
+    puts-same (by-event (a .n) (a .at) (a .payload .now) (e .event2 .given .1)) (p .put-error6 .ensures)
 
 pub put-line-spec : {M : Type 1} → statement M
 put-line-spec =

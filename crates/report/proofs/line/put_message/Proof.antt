@@ -5,7 +5,8 @@ use Rattle.report.specs.Text.{asciiFrom, ascii, decimal}
 use Rattle.report.specs.TextLaws.{decimal-length, hex-length}
 use Rattle.report.specs.Line.{messageLine}
 use Rattle.report.specs.LineLaws.{head-length, bem-length}
-use Rattle.report.specs.Puts.{puts-then, puts-both, Upto, upto-then}
+use Rattle.field.specs.Puts.{puts-then, puts-both}
+use Rattle.report.specs.Room.{Upto, upto-then}
 use Rattle.report.proofs.line.put_message.Statement.{statement}
 use Rattle.report.proofs.line.put_message.Tie as tie
 

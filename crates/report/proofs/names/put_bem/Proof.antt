@@ -4,7 +4,7 @@ use borrow.Author.Needs.{needs}
 use Rattle.report.specs.Text.{asciiFrom}
 use Rattle.report.specs.Line.{nameText}
 use Rattle.report.specs.LineLaws.{bem-empty, bem-named, bem-none}
-use Rattle.report.specs.Puts.{puts-text}
+use Rattle.field.specs.Puts.{puts-same}
 use Rattle.report.proofs.names.put_bem.Statement.{statement}
 use Rattle.report.proofs.names.put_bem.Tie as tie
 
@@ -21,7 +21,7 @@ returns : tie.Need-returns
 unfolding asciiFrom
 returns c =
     let p = c .before .before in
-    puts-text (sym (bem-empty _ _ (p .before .before .before .if1 .taken))) (p .put-bytes .ensures)
+    puts-same (sym (bem-empty _ _ (p .before .before .before .if1 .taken))) (p .put-bytes .ensures)
 
 is-bem-requires : tie.Need-is-bem-requires
 is-bem-requires c κs = search needs
@@ -50,7 +50,7 @@ returns-2 c =
     let n = p .before in
     let t = n .before .before .before in
     let b = t .before in
-    puts-text (ap nameText (n .name-number .ensures) ∙ sym (bem-named _ _ (b .before .if1 .left) (sym (b .is-bem .ensures) ∙ t .if2 .taken))) (p .put-name .ensures)
+    puts-same (ap nameText (n .name-number .ensures) ∙ sym (bem-named _ _ (b .before .if1 .left) (sym (b .is-bem .ensures) ∙ t .if2 .taken))) (p .put-name .ensures)
 
 same-length-3 : tie.Need-same-length-3
 same-length-3 c = search needs
@@ -61,7 +61,7 @@ returns-3 c =
     let p = c .before .before in
     let t = p .before .before .before in
     let b = t .before in
-    puts-text (sym (bem-none _ _ (b .before .if1 .left) (sym (b .is-bem .ensures) ∙ t .if2 .left))) (p .put-bytes2 .ensures)
+    puts-same (sym (bem-none _ _ (b .before .if1 .left) (sym (b .is-bem .ensures) ∙ t .if2 .left))) (p .put-bytes2 .ensures)
 
 pub put-bem-spec : {M : Type 1} → statement M
 put-bem-spec =

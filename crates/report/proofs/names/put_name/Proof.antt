@@ -4,7 +4,7 @@ use borrow.Author.Needs.{needs}
 use Rattle.report.specs.Text.{asciiFrom}
 use Rattle.report.specs.Line.{nameText}
 use Rattle.report.specs.LineLaws.{name-other}
-use Rattle.report.specs.Puts.{puts-text}
+use Rattle.field.specs.Puts.{puts-same}
 use Rattle.report.proofs.names.put_name.Statement.{statement}
 use Rattle.report.proofs.names.put_name.Tie as tie
 
@@ -81,7 +81,7 @@ returns : tie.Need-returns
 unfolding nameText asciiFrom
 returns c =
     let p = c .before .before in
-    puts-text (sym (ap nameText (p .before .before .before .match .keys1))) (p .put-bytes .ensures)
+    puts-same (sym (ap nameText (p .before .before .before .match .keys1))) (p .put-bytes .ensures)
 
 same-length-2 : tie.Need-same-length-2
 same-length-2 c = search needs
@@ -90,7 +90,7 @@ returns-2 : tie.Need-returns-2
 unfolding nameText asciiFrom
 returns-2 c =
     let p = c .before .before in
-    puts-text (sym (ap nameText (p .before .before .before .match .keys2))) (p .put-bytes2 .ensures)
+    puts-same (sym (ap nameText (p .before .before .before .match .keys2))) (p .put-bytes2 .ensures)
 
 same-length-3 : tie.Need-same-length-3
 same-length-3 c = search needs
@@ -99,7 +99,7 @@ returns-3 : tie.Need-returns-3
 unfolding nameText asciiFrom
 returns-3 c =
     let p = c .before .before in
-    puts-text (sym (ap nameText (p .before .before .before .match .keys3))) (p .put-bytes3 .ensures)
+    puts-same (sym (ap nameText (p .before .before .before .match .keys3))) (p .put-bytes3 .ensures)
 
 same-length-4 : tie.Need-same-length-4
 same-length-4 c = search needs
@@ -108,7 +108,7 @@ returns-4 : tie.Need-returns-4
 unfolding nameText asciiFrom
 returns-4 c =
     let p = c .before .before in
-    puts-text (sym (ap nameText (p .before .before .before .match .keys4))) (p .put-bytes4 .ensures)
+    puts-same (sym (ap nameText (p .before .before .before .match .keys4))) (p .put-bytes4 .ensures)
 
 same-length-5 : tie.Need-same-length-5
 same-length-5 c = search needs
@@ -117,7 +117,7 @@ returns-5 : tie.Need-returns-5
 unfolding nameText asciiFrom
 returns-5 c =
     let p = c .before .before in
-    puts-text (sym (ap nameText (p .before .before .before .match .keys5))) (p .put-bytes5 .ensures)
+    puts-same (sym (ap nameText (p .before .before .before .match .keys5))) (p .put-bytes5 .ensures)
 
 same-length-6 : tie.Need-same-length-6
 same-length-6 c = search needs
@@ -126,7 +126,7 @@ returns-6 : tie.Need-returns-6
 unfolding nameText asciiFrom
 returns-6 c =
     let p = c .before .before in
-    puts-text (sym (ap nameText (p .before .before .before .match .keys6))) (p .put-bytes6 .ensures)
+    puts-same (sym (ap nameText (p .before .before .before .match .keys6))) (p .put-bytes6 .ensures)
 
 same-length-7 : tie.Need-same-length-7
 same-length-7 c = search needs
@@ -135,7 +135,7 @@ returns-7 : tie.Need-returns-7
 unfolding nameText asciiFrom
 returns-7 c =
     let p = c .before .before in
-    puts-text (sym (ap nameText (p .before .before .before .match .keys7))) (p .put-bytes7 .ensures)
+    puts-same (sym (ap nameText (p .before .before .before .match .keys7))) (p .put-bytes7 .ensures)
 
 same-length-8 : tie.Need-same-length-8
 same-length-8 c = search needs
@@ -144,7 +144,7 @@ returns-8 : tie.Need-returns-8
 unfolding nameText asciiFrom
 returns-8 c =
     let p = c .before .before in
-    puts-text (sym (ap nameText (p .before .before .before .match .keys8))) (p .put-bytes8 .ensures)
+    puts-same (sym (ap nameText (p .before .before .before .match .keys8))) (p .put-bytes8 .ensures)
 
 same-length-9 : tie.Need-same-length-9
 same-length-9 c = search needs
@@ -153,7 +153,7 @@ returns-9 : tie.Need-returns-9
 unfolding nameText asciiFrom
 returns-9 c =
     let p = c .before .before in
-    puts-text (sym (ap nameText (p .before .before .before .match .keys9))) (p .put-bytes9 .ensures)
+    puts-same (sym (ap nameText (p .before .before .before .match .keys9))) (p .put-bytes9 .ensures)
 
 same-length-10 : tie.Need-same-length-10
 same-length-10 c = search needs
@@ -162,7 +162,7 @@ returns-10 : tie.Need-returns-10
 unfolding nameText asciiFrom
 returns-10 c =
     let p = c .before .before in
-    puts-text (sym (ap nameText (p .before .before .before .match .keys10))) (p .put-bytes10 .ensures)
+    puts-same (sym (ap nameText (p .before .before .before .match .keys10))) (p .put-bytes10 .ensures)
 
 same-length-11 : tie.Need-same-length-11
 same-length-11 c = search needs
@@ -172,7 +172,7 @@ unfolding asciiFrom
 returns-11 c =
     let p = c .before .before in
     let m = p .before .before .before .match .rest in
-    puts-text (sym (name-other _ (m .0 .0 .0 .0 .0 .0 .0 .0 .0 .1) (m .0 .0 .0 .0 .0 .0 .0 .0 .1) (m .0 .0 .0 .0 .0 .0 .0 .1) (m .0 .0 .0 .0 .0 .0 .1) (m .0 .0 .0 .0 .0 .1) (m .0 .0 .0 .0 .1) (m .0 .0 .0 .1) (m .0 .0 .1) (m .0 .1) (m .1))) (p .put-bytes11 .ensures)
+    puts-same (sym (name-other _ (m .0 .0 .0 .0 .0 .0 .0 .0 .0 .1) (m .0 .0 .0 .0 .0 .0 .0 .0 .1) (m .0 .0 .0 .0 .0 .0 .0 .1) (m .0 .0 .0 .0 .0 .0 .1) (m .0 .0 .0 .0 .0 .1) (m .0 .0 .0 .0 .1) (m .0 .0 .0 .1) (m .0 .0 .1) (m .0 .1) (m .1))) (p .put-bytes11 .ensures)
 
 pub put-name-spec : {M : Type 1} → statement M
 put-name-spec =

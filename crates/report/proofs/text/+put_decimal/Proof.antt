@@ -7,7 +7,7 @@ use borrow.Fn.Kinds.{In}
 use borrow.Fn.PlainCycle.{Measures, is, falls, and}
 use lib.ListN.{length}
 use Rattle.report.specs.TextLaws.{decimal-one, decimal-more, shorter}
-use Rattle.report.specs.Puts.{puts-one, puts-first, puts-length}
+use Rattle.field.specs.Puts.{puts-one, puts-first, puts-length}
 use Rattle.report.proofs.text.put_decimal.Reads as put-decimal
 use Rattle.report.proofs.text.put_decimal.Kinds as put-decimal-kinds
 use Rattle.report.proofs.text.+put_decimal.Lts-put_decimal as put-decimal-lts

@@ -6,7 +6,7 @@ use mathlib.Core.Path.{_≡_}
 use borrow.Author.Needs.{needs}
 use lib.ListN.{length, take}
 use lib.Seq.{take-suc, take-all, length-take-le}
-use Rattle.report.specs.Puts.{Puts, puts-none, puts-one, puts-length}
+use Rattle.field.specs.Puts.{Puts, puts-none, puts-one, puts-length}
 use Rattle.report.proofs.text.put_bytes.Statement.{statement}
 use Rattle.report.proofs.text.put_bytes.Tie as tie
 

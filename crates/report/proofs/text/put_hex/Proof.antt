@@ -3,7 +3,7 @@ use native.Mathlib.Omega.{arith}
 use borrow.Author.Needs.{needs}
 use lib.ListN.{length-set}
 use Rattle.report.specs.Text.{hex2}
-use Rattle.report.specs.Puts.{puts-two}
+use Rattle.field.specs.Puts.{puts-two}
 use Rattle.report.proofs.text.put_hex.Statement.{statement}
 use Rattle.report.proofs.text.put_hex.Tie as tie
 

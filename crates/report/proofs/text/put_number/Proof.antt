@@ -1,6 +1,6 @@
 -- `report::text::put_number` meets its contract. Assumes nothing.
 use borrow.Author.Needs.{needs}
-use Rattle.report.specs.Puts.{puts-then}
+use Rattle.field.specs.Puts.{puts-then}
 use Rattle.report.proofs.text.put_number.Statement.{statement}
 use Rattle.report.proofs.text.put_number.Tie as tie
 

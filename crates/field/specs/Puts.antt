@@ -1,4 +1,4 @@
--- Bytes put into a slice from a place on: what the helpers that write text ensure, and how one goes on where another ended. Assumes nothing.
+-- Bytes put into a slice from a place on: what a writer ensures, and how one goes on where another ended. Assumes nothing.
 use Prim.Native.Nat.{ℕ, _+_, _≤_}
 use native.Mathlib.Omega.{arith}
 use native.Mathlib.Numerals.{add-one}
@@ -50,15 +50,6 @@ puts-first l i b = record { stored = refl; after = refl }
 pub puts-two : (l : List ℕ) (i b c : ℕ) → Puts l i (b ∷ c ∷ []) (set (set l i b) (i + 1) c) (i + 2)
 puts-two l i b c = record { stored = rw (add-one i); after = refl }
 
--- the same text, named otherwise
-pub puts-text : {l o : List ℕ} {i n : ℕ} {xs ys : List ℕ} → xs ≡ ys → Puts l i xs o n → Puts l i ys o n
-puts-text {l} {o} {i} {n} {xs} {ys} e a = rw (sym e) a
-
--- a place that is k at the most, in a slice with room for any line
-pub record Upto (l : List ℕ) (i k : ℕ) : Type 0 where
-  pub place : i ≤ k
-  pub room : 128 ≤ length l
-
--- after m bytes more at the most
-pub upto-then : {l o : List ℕ} {i n k : ℕ} {xs : List ℕ} (m : ℕ) → Upto l i k → Puts l i xs o n → length xs ≤ m → Upto o n (k + m)
-upto-then {l} {o} {i} {n} {k} {xs} m u a h = record { place = omega (arith, u .place, a .after); room = omega (arith, u .room, puts-length a) }
+-- the same bytes, named otherwise
+pub puts-same : {l o : List ℕ} {i n : ℕ} {xs ys : List ℕ} → xs ≡ ys → Puts l i xs o n → Puts l i ys o n
+puts-same {l} {o} {i} {n} {xs} {ys} e a = rw (sym e) a
