@@ -72,9 +72,6 @@ stuff-dles (x ∷ xs) = simp length-append (go (eqb x 0x10) (stuff-dles xs))
     go true e = omega arith
     go false e = omega arith
 
-pub dles-most : (s : List ℕ) → dles s ≤ length s
-dles-most s = omega (arith, stuff-dles s, stuff-length s)
-
 -- the count of one byte more
 pub dles-take : (s : List ℕ) (i : ℕ) → i < length s → dles (take (i + 1) s) ≡ dles (take i s) + dles (getD s i 0 ∷ [])
 dles-take s i h = rw (add-one, take-suc s i 0, dles-append)

@@ -17,7 +17,7 @@ use Rattle.framing.specs.Feed.{Feed, fed, isQuiet, shift, taken}
 -- the events that framing gives, over a buffer of so many bytes: a message's payload lies inside it
 pub data Given (room : ℕ) : Outcome → Type 0 where
   Nothing : Given room quiet
-  Delivered : (c n : ℕ) → 2 + n ≤ room → Given room (message c n)
+  Whole : (c n : ℕ) → 2 + n ≤ room → Given room (message c n)
   Short : Given room (error 1 [])
   Sum : Given room (error 2 [])
   Lengths : (d a : ℕ) → Given room (error 3 (d ∷ a ∷ []))
@@ -32,7 +32,7 @@ abbrev Gives : Step → Type 0
 Gives s = Given (length (s .next .buffer)) (s .outcome)
 
 closing-gives : (room : ℕ) (l : List ℕ) → length l ≤ room → Given room (closing l)
-closing-gives room l h = closing-case (Given room) l Short Sum (Lengths _ _) (λ k. Delivered (getD l 0 0) (length l - 3) (omega arith))
+closing-gives room l h = closing-case (Given room) l Short Sum (Lengths _ _) (λ k. Whole (getD l 0 0) (length l - 3) (omega arith))
 
 closed : (n : ℕ) (buf : List ℕ) → Given (length buf) (closing (take n buf))
 closed n buf = closing-gives (length buf) (take n buf) (simp length-take (omega arith))

@@ -140,10 +140,11 @@ impl Decoder {
     {
         let phase = self.phase;
         let count = self.count;
+        let room = buf.len();
         if MAX_COLLECT < count {
             return answer(phase, count, Event::Refused(16));
         }
-        if buf.len() < MAX_COLLECT {
+        if room < MAX_COLLECT {
             return answer(phase, count, Event::Refused(7));
         }
         match phase {

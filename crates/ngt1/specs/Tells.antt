@@ -15,7 +15,7 @@ use Rattle.framing.specs.Encode.{Answer, wrote, encoded}
 use Rattle.framing.specs.Encode.{refused as refusal}
 use Rattle.framing.specs.Decode.{Outcome, quiet, message, error, refused, State, state, to, Step, step, payloadOf}
 use Rattle.framing.specs.Feed.{Feed, fed}
-use Rattle.framing.specs.Given.{Given, Nothing, Delivered, Short, Sum, Lengths, Escape, Long, Unformed, Roomless, step-gives, fed-gives}
+use Rattle.framing.specs.Given.{Given, Nothing, Whole, Short, Sum, Lengths, Escape, Long, Unformed, Roomless, step-gives, fed-gives}
 use Rattle.ngt1.specs.declared.frames.Told.{Told}
 use Rattle.ngt1.specs.Convention.{Reply, reply}
 use Rattle.ngt1.specs.Numbers.{phaseOf, numberOf, tells, toldOf, payloadAt, answerReply, feedReply, stepReply}
@@ -45,7 +45,7 @@ outcomeAt t =
 
 pub outcome-back : {room : ℕ} {o : Outcome} → Given room o → outcomeAt (toldOf o) ≡ o
 outcome-back Nothing = refl
-outcome-back (Delivered c n h) = refl
+outcome-back (Whole c n h) = refl
 outcome-back Short = refl
 outcome-back Sum = refl
 outcome-back (Lengths d a) = refl
@@ -61,7 +61,7 @@ outcome-tells g h e = sym (outcome-back g) ∙ ap outcomeAt e ∙ outcome-back h
 -- `buf[2 .. 2 + second]` of a message is framing's payload, and lies inside the buffer
 pub payload-back : {o : Outcome} (buf : List ℕ) → Given (length buf) o → payloadAt (toldOf o) buf ≡ payloadOf o buf
 payload-back buf Nothing = refl
-payload-back buf (Delivered c n h) = refl
+payload-back buf (Whole c n h) = refl
 payload-back buf Short = refl
 payload-back buf Sum = refl
 payload-back buf (Lengths d a) = refl
@@ -72,7 +72,7 @@ payload-back buf Roomless = refl
 
 pub payload-inside : {room : ℕ} {o : Outcome} → Given room o → toldOf o .kind ≡ 100 → 2 + toldOf o .second ≤ room
 payload-inside Nothing e = absurd (omega arith)
-payload-inside (Delivered c n h) e = h
+payload-inside (Whole c n h) e = h
 payload-inside Short e = absurd (omega arith)
 payload-inside Sum e = absurd (omega arith)
 payload-inside (Lengths d a) e = absurd (omega arith)
