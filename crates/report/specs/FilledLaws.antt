@@ -7,7 +7,7 @@ use mathlib.Core.Bool.{Bool, true, false}
 use mathlib.Core.List.{List, [], _∷_, _++_}
 use borrow.Author.Tests.{lt-ltb, le-ltb, ltb-true, ltb-false, eq-eqb, ne-eqb}
 use borrow.Rule.Slice.PartMut.{putMid}
-use lib.Dec.{ltb, eqb}
+use lib.Dec.{ltb}
 use lib.ListN.{length, take, drop, length-append, length-drop}
 use lib.Seq.{take-all, take-append-seam, drop-append-seam, length-take-le}
 use Rattle.field.specs.Pick.{pick}
@@ -18,24 +18,10 @@ use Rattle.framing.specs.Feed.{fed, Formed}
 use Rattle.framing.specs.FeedLaws.{fed-bound}
 use Rattle.framing.specs.FormedLaws.{fed-moves, fed-formed}
 use Rattle.report.specs.LineLaws.{line-length}
-use Rattle.report.specs.Listing.{Turn, stateOf, toldListed, fedLine, refusalBy, refusalOf, listed}
-use Rattle.report.specs.ListingLaws.{listed-taken}
+use Rattle.report.specs.Listing.{Turn, stateOf, toldListed, fedLine, refusalOf, listed}
+use Rattle.report.specs.ListingLaws.{refusal-zero, listed-taken}
 use Rattle.report.specs.Filled.{stopped, fill, filled}
 use Rattle.report.specs.declared.listing.Listed.{Listed}
-
--- nothing is refused where the decoder is well formed and there is room for a line, and only there
-none-refused : (t u v : Bool) (count buf out : ℕ) → ltb 1024 count ≡ t → ltb buf 1024 ≡ u → ltb out 128 ≡ v
-    → pick {A = ℕ} t 16 (pick u 7 (pick v 7 0)) ≡ 0 → (count ≤ 1024) × (1024 ≤ buf) × (128 ≤ out)
-none-refused true u v count buf out p q r e = absurd (omega arith)
-none-refused false true v count buf out p q r e = absurd (omega arith)
-none-refused false false true count buf out p q r e = absurd (omega arith)
-none-refused false false false count buf out p q r e = (ltb-false 1024 count p, ltb-false buf 1024 q, ltb-false out 128 r)
-
-pub refusal-none : (count buf out : ℕ) → refusalBy count buf out ≡ 0 → (count ≤ 1024) × (1024 ≤ buf) × (128 ≤ out)
-refusal-none count buf out e = none-refused (ltb 1024 count) (ltb buf 1024) (ltb out 128) count buf out refl refl refl e
-
-pub refusal-zero : (s : State) (out : List ℕ) → Formed s → 128 ≤ length out → refusalOf s out ≡ 0
-refusal-zero s out f h = rw (le-ltb 1024 (s .count) (f .small), le-ltb (length (s .buffer)) 1024 (f .room), le-ltb (length out) 128 h)
 
 pub filled-refused : (n at : ℕ) (s : State) (bytes out : List ℕ) (number : ℕ) → number ≡ refusalOf s out → (number ≡ 0 → ⊥)
     → filled n at s bytes out ≡ record { next = s; n = n; at = at; used = 0; len = 0; number = number; out = out }
@@ -218,3 +204,81 @@ module _ (n at : ℕ) (s : State) (bytes old out : List ℕ) (i m k : ℕ) (t : 
   -- no room is left
   pub filling-full : length out ≡ length old → length out - m < 128 → record { next = s; n = n; at = at; used = i; len = m; number = 0; out = out } ≡ t
   filling-full p g = ended ∙ sym (e ∙ fill-full n at s bytes old i (take m out) k (omega (arith, length-take-le m out h)))
+
+-- the place in the bytes and the text only grow, and the text stays inside the output
+record Grown (bytes out : List ℕ) (i : ℕ) (t : Turn) : Type 0 where
+  moves : i ≤ t .used
+  fits : t .len ≤ length out
+  kept : drop (t .len) (t .out) ≡ drop (t .len) out
+  long : length (t .out) ≡ length out
+
+grown-stopped : (n at : ℕ) (s : State) (bytes out : List ℕ) (i : ℕ) (text : List ℕ) → length text ≤ length out → Grown bytes out i (stopped n at s out i text)
+grown-stopped n at s bytes out i text h =
+    record { moves = omega arith; fits = h; kept = drop-append-seam text (drop (length text) out); long = written-length text out h }
+
+grown : (k n at : ℕ) (s : State) (bytes out : List ℕ) (i : ℕ) (text : List ℕ) → Formed s → length text ≤ length out → Grown bytes out i (fill k n at s bytes out i text)
+unfolding fill
+grown zero n at s bytes out i text f h = grown-stopped n at s bytes out i text h
+grown (suc k) n at s bytes out i text f h =
+    choose i (length bytes) (length out) (length text + 128)
+    (λ x y.
+      let rest = drop i bytes in
+      let room = drop (length text) out in
+      let t = listed n at s rest room in
+      let r = turn-room n at s bytes out i text y in
+      let b : length (text ++ take (t .len) (t .out)) ≤ length out =
+      rw length-append (omega (arith, turn-len n at s rest room f r, turn-length n at s rest room f r)) in
+      let g = grown k (t .n) (t .at) (t .next) bytes out (i + t .used) (text ++ take (t .len) (t .out)) (turn-formed n at s rest room f r) b in
+      rw (fill-on n at s bytes out i text k x y) (record { moves = omega (arith, g .moves); fits = g .fits; kept = g .kept; long = g .long }))
+    (λ x. rw (fill-end n at s bytes out i text (suc k) x) (grown-stopped n at s bytes out i text h))
+    (λ x. rw (fill-full n at s bytes out i text (suc k) x) (grown-stopped n at s bytes out i text h))
+
+-- where bytes are left, no room for a line is
+fill-stops : (k n at : ℕ) (s : State) (bytes out : List ℕ) (i : ℕ) (text : List ℕ) → Formed s → length bytes ≤ i + k
+    → let t = fill k n at s bytes out i text in
+    t .used < length bytes → length out < t .len + 128
+unfolding fill
+fill-stops zero n at s bytes out i text f h = λ u. absurd (omega arith)
+fill-stops (suc k) n at s bytes out i text f h =
+    choose i (length bytes) (length out) (length text + 128)
+    (λ x y.
+      let rest = drop i bytes in
+      let room = drop (length text) out in
+      let t = listed n at s rest room in
+      let r = turn-room n at s bytes out i text y in
+      let w = turn-moves n at s rest room f r (turn-bytes n at s bytes out i text x) in
+      rw (fill-on n at s bytes out i text k x y)
+      (fill-stops k (t .n) (t .at) (t .next) bytes out (i + t .used) (text ++ take (t .len) (t .out)) (turn-formed n at s rest room f r) (omega arith)))
+    (λ x. rw (fill-end n at s bytes out i text (suc k) x) (λ u. absurd (omega arith)))
+    (λ x. rw (fill-full n at s bytes out i text (suc k) x) (λ u. x))
+
+-- a call that is not refused
+module _ (n at : ℕ) (s : State) (bytes out : List ℕ) (f : Formed s) (r : 128 ≤ length out) where
+  filled-grown : Grown bytes out 0 (filled n at s bytes out)
+  filled-grown = rw (filled-taken n at s bytes out f r) (grown (length bytes) n at s bytes out 0 [] f (omega arith))
+
+  -- the output is as long as before, and the bytes after the text are as they were
+  pub filled-long : length (filled n at s bytes out .out) ≡ length out
+  filled-long = filled-grown .long
+
+  pub filled-fits : filled n at s bytes out .len ≤ length out
+  filled-fits = filled-grown .fits
+
+  pub filled-kept : drop (filled n at s bytes out .len) (filled n at s bytes out .out) ≡ drop (filled n at s bytes out .len) out
+  filled-kept = filled-grown .kept
+
+  -- a byte at least is used, where there is one
+  pub filled-moves : 0 < length bytes → 1 ≤ filled n at s bytes out .used
+  filled-moves h =
+      let k = length bytes - 1 in
+      let one : length bytes ≡ suc k = omega arith in
+      let t = listed n at s bytes out in
+      let w = turn-moves n at s bytes out f r h in
+      let b : length (take (t .len) (t .out)) ≤ length out = omega (arith, turn-len n at s bytes out f r, turn-length n at s bytes out f r) in
+      let g = grown k (t .n) (t .at) (t .next) bytes out (0 + t .used) (take (t .len) (t .out)) (turn-formed n at s bytes out f r) b in
+      rw (filled-taken n at s bytes out f r ∙ ap (λ (j : ℕ). fill j n at s bytes out 0 []) one ∙ fill-on n at s bytes out 0 [] k h (omega arith))
+      (omega (arith, g .moves))
+
+  -- and all, unless less than 128 bytes of room are left
+  pub filled-stops : filled n at s bytes out .used < length bytes → length out < filled n at s bytes out .len + 128
+  filled-stops = rw (filled-taken n at s bytes out f r) (fill-stops (length bytes) n at s bytes out 0 [] f (omega arith))

@@ -84,14 +84,9 @@ pub fn list_bytes(place: Place, buf: &mut [u8], bytes: &[u8], out: &mut [u8]) ->
     ensures { λ r. ⌜ toldListed r (now (buf .exit)) (now (out .exit)) ≡ listed (place .n) (place .at) (stateOf place (now (buf .entry))) (now (bytes .entry)) (now (out .entry)) ⌝ }
 {
     let first = place.decoder;
-    if MAX_COLLECT < first.count {
-        return refused(place, 16);
-    }
-    if buf.len() < MAX_COLLECT {
-        return refused(place, 7);
-    }
-    if out.len() < LINE_ROOM {
-        return refused(place, 7);
+    let number = refusal(first.count, buf.len(), out.len());
+    if number != 0 {
+        return refused(place, number);
     }
     let fed = first.push_bytes(buf, bytes);
     let decoder = fed.decoder;

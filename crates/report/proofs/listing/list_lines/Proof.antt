@@ -3,8 +3,8 @@ use Prim.Native.Nat.{_≤_}
 use mathlib.Core.Path.{sym, _∙_}
 use Rattle.framing.specs.Feed.{Formed}
 use Rattle.report.specs.Listing.{stateOf}
-use Rattle.report.specs.ListingLaws.{told-by}
-use Rattle.report.specs.FilledLaws.{refusal-none, filled-refused, filled-taken}
+use Rattle.report.specs.ListingLaws.{refusal-none, told-by}
+use Rattle.report.specs.FilledLaws.{filled-refused, filled-taken}
 use lib.ListN.{length}
 use borrow.Author.Needs.{needs}
 use Rattle.report.proofs.listing.list_lines.Statement.{statement}
