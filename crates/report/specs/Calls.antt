@@ -17,7 +17,7 @@ use Rattle.framing.specs.FormedLaws.{fed-event, after-fed}
 use Rattle.report.specs.Listing.{listing, Turn, listed}
 use Rattle.report.specs.ListingLaws.{listed-taken, listed-listing, events, events-fed, listing-append}
 use Rattle.report.specs.Filled.{stopped, fill, filled}
-use Rattle.report.specs.FilledLaws.{choose, turn-formed, turn-bound, turn-room, fill-end, fill-full, fill-on, filled-taken, filled-moves, filled-long}
+use Rattle.report.specs.FilledLaws.{choose, turn-formed, turn-bound, turn-room, fill-end, fill-full, fill-on, filled-taken, filled-formed, filled-moves, filled-long}
 
 -- what calls wrote, one after the other, and where they leave the listing
 pub record Run : Type 0 where
@@ -36,10 +36,8 @@ whole n at s bytes = record { text = listing n at s bytes; n = n + events s byte
 
 -- what holds after a call, of `list_bytes` or of `list_lines`: its text and the listing of the rest are the listing
 pub record Goes (n at : ℕ) (s : State) (bytes : List ℕ) (t : Turn) : Type 0 where
-  pub bound : t .used ≤ length bytes
   pub numbers : t .n + 1 + (length bytes - t .used) < 2 ^ 64
   pub offsets : t .at + (length bytes - t .used) < 2 ^ 64
-  pub formed : Formed (t .next)
   pub same : ahead (take (t .len) (t .out)) (whole (t .n) (t .at) (t .next) (drop (t .used) bytes)) ≡ whole n at s bytes
 
 next-number : (q : Bool) (n used len : ℕ) → (q ≡ false → 1 ≤ used) → used ≤ len → n + 1 + len < 2 ^ 64
@@ -72,38 +70,26 @@ turn-goes n at s bytes out formed r l m =
     let same-at : t .at + length (drop (t .used) bytes) ≡ at + length bytes = rw (listed-taken n at s bytes out formed r, d, e) (omega arith) in
     let same-next : after (t .next) (drop (t .used) bytes) ≡ after s bytes = rw (listed-taken n at s bytes out formed r) (sym (after-fed s bytes)) in
     record {
-      bound = turn-bound n at s bytes out formed r;
       numbers = rw (listed-taken n at s bytes out formed r) (next-number (isQuiet (f .outcome)) n (f .used) (length bytes) (fed-event s bytes formed) b l);
       offsets = rw (listed-taken n at s bytes out formed r, e) (omega arith);
-      formed = turn-formed n at s bytes out formed r;
       same = λ i. record { text = line i; n = same-n i; at = same-at i; next = same-next i };
     }
 
 -- what holds of the turns from the i-th byte on, with a text before them
 record Fills (n at : ℕ) (s : State) (bytes out : List ℕ) (i : ℕ) (text : List ℕ) (t : Turn) : Type 0 where
-  moves : i ≤ t .used
-  bound : t .used ≤ length bytes
   numbers : t .n + 1 + (length bytes - t .used) < 2 ^ 64
   offsets : t .at + (length bytes - t .used) < 2 ^ 64
-  formed : Formed (t .next)
   same : ahead (take (t .len) (t .out)) (whole (t .n) (t .at) (t .next) (drop (t .used) bytes)) ≡ ahead text (whole n at s (drop i bytes))
 
-fills-stopped : (n at : ℕ) (s : State) (bytes out : List ℕ) (i : ℕ) (text : List ℕ) → Formed s → i ≤ length bytes → n + 1 + (length bytes - i) < 2 ^ 64
-    → at + (length bytes - i) < 2 ^ 64 → Fills n at s bytes out i text (stopped n at s out i text)
-fills-stopped n at s bytes out i text formed h l m =
-    record {
-      moves = omega arith;
-      bound = h;
-      numbers = l;
-      offsets = m;
-      formed = formed;
-      same = ap (λ (u : List ℕ). ahead u (whole n at s (drop i bytes))) (take-append-seam text (drop (length text) out));
-    }
+fills-stopped : (n at : ℕ) (s : State) (bytes out : List ℕ) (i : ℕ) (text : List ℕ) → n + 1 + (length bytes - i) < 2 ^ 64 → at + (length bytes - i) < 2 ^ 64
+    → Fills n at s bytes out i text (stopped n at s out i text)
+fills-stopped n at s bytes out i text l m =
+    record { numbers = l; offsets = m; same = ap (λ (u : List ℕ). ahead u (whole n at s (drop i bytes))) (take-append-seam text (drop (length text) out)) }
 
 fills : (k n at : ℕ) (s : State) (bytes out : List ℕ) (i : ℕ) (text : List ℕ) → Formed s → i ≤ length bytes → n + 1 + (length bytes - i) < 2 ^ 64
     → at + (length bytes - i) < 2 ^ 64 → Fills n at s bytes out i text (fill k n at s bytes out i text)
 unfolding fill
-fills zero n at s bytes out i text formed h l m = fills-stopped n at s bytes out i text formed h l m
+fills zero n at s bytes out i text formed h l m = fills-stopped n at s bytes out i text l m
 fills (suc k) n at s bytes out i text formed h l m =
     choose i (length bytes) (length out) (length text + 128)
     (λ x y.
@@ -112,17 +98,19 @@ fills (suc k) n at s bytes out i text formed h l m =
       let t = listed n at s rest room in
       let line = take (t .len) (t .out) in
       let d : length rest ≡ length bytes - i = length-drop i bytes in
-      let g = turn-goes n at s rest room formed (turn-room n at s bytes out i text y) (omega arith) (omega arith) in
-      let f = fills k (t .n) (t .at) (t .next) bytes out (i + t .used) (text ++ line) (g .formed) (omega (arith, g .bound)) (omega (arith, g .bound, g .numbers)) (omega (arith, g .bound, g .offsets)) in
+      let r = turn-room n at s bytes out i text y in
+      let b = turn-bound n at s rest room formed r in
+      let g = turn-goes n at s rest room formed r (omega arith) (omega arith) in
+      let f = fills k (t .n) (t .at) (t .next) bytes out (i + t .used) (text ++ line) (turn-formed n at s rest room formed r) (omega arith) (omega (arith, g .numbers)) (omega (arith, g .offsets)) in
       let v : ahead (text ++ line) (whole (t .n) (t .at) (t .next) (drop (i + t .used) bytes)) ≡ ahead text (whole n at s rest) =
       ap (λ (u : List ℕ). ahead (text ++ line) (whole (t .n) (t .at) (t .next) u)) (sym (drop-drop (t .used) i bytes))
       ∙ ap (λ (u : List ℕ). record { text = u; n = t .n + events (t .next) (drop (t .used) rest); at = t .at + length (drop (t .used) rest); next = after (t .next) (drop (t .used) rest) })
       (append-assoc text line (listing (t .n) (t .at) (t .next) (drop (t .used) rest)))
       ∙ ap (ahead text) (g .same) in
       rw (fill-on n at s bytes out i text k x y)
-      (record { moves = omega (arith, f .moves); bound = f .bound; numbers = f .numbers; offsets = f .offsets; formed = f .formed; same = f .same ∙ v }))
-    (λ x. rw (fill-end n at s bytes out i text (suc k) x) (fills-stopped n at s bytes out i text formed h l m))
-    (λ x. rw (fill-full n at s bytes out i text (suc k) x) (fills-stopped n at s bytes out i text formed h l m))
+      (record { numbers = f .numbers; offsets = f .offsets; same = f .same ∙ v }))
+    (λ x. rw (fill-end n at s bytes out i text (suc k) x) (fills-stopped n at s bytes out i text l m))
+    (λ x. rw (fill-full n at s bytes out i text (suc k) x) (fills-stopped n at s bytes out i text l m))
 
 -- a call of `list_lines`, while numbers and offsets stay below 2^64
 pub filled-goes : (n at : ℕ) (s : State) (bytes out : List ℕ) → Formed s → 128 ≤ length out → n + 1 + length bytes < 2 ^ 64 → at + length bytes < 2 ^ 64
@@ -130,7 +118,7 @@ pub filled-goes : (n at : ℕ) (s : State) (bytes out : List ℕ) → Formed s �
 filled-goes n at s bytes out formed r l m =
     let f = fills (length bytes) n at s bytes out 0 [] formed (omega arith) (omega arith) (omega arith) in
     rw (filled-taken n at s bytes out formed r)
-    (record { bound = f .bound; numbers = f .numbers; offsets = f .offsets; formed = f .formed; same = f .same })
+    (record { numbers = f .numbers; offsets = f .offsets; same = f .same })
 
 -- what it wrote, and the listing of the rest, are the listing
 pub filled-listing : (n at : ℕ) (s : State) (bytes out : List ℕ) → Formed s → 128 ≤ length out → n + 1 + length bytes < 2 ^ 64 → at + length bytes < 2 ^ 64
@@ -160,7 +148,7 @@ calls-listing (suc k) n at s bytes out f h r l m =
     let g = filled-goes n at s bytes out f r l m in
     let d : length (drop (t .used) bytes) ≡ length bytes - t .used = length-drop (t .used) bytes in
     ap (ahead (take (t .len) (t .out)))
-    (calls-listing k (t .n) (t .at) (t .next) (drop (t .used) bytes) (t .out) (g .formed) (omega (arith, used-some n at s bytes out k f r h))
+    (calls-listing k (t .n) (t .at) (t .next) (drop (t .used) bytes) (t .out) (filled-formed n at s bytes out f r) (omega (arith, used-some n at s bytes out k f r h))
     (omega (arith, filled-long n at s bytes out f r)) (omega (arith, g .numbers)) (omega (arith, g .offsets)))
     ∙ g .same
 

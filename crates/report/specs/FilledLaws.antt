@@ -205,33 +205,39 @@ module _ (n at : ℕ) (s : State) (bytes old out : List ℕ) (i m k : ℕ) (t : 
   pub filling-full : length out ≡ length old → length out - m < 128 → record { next = s; n = n; at = at; used = i; len = m; number = 0; out = out } ≡ t
   filling-full p g = ended ∙ sym (e ∙ fill-full n at s bytes old i (take m out) k (omega (arith, length-take-le m out h)))
 
--- the place in the bytes and the text only grow, and the text stays inside the output
+-- what holds of the turns from the i-th byte on: they stay inside the bytes and the output, and leave the decoder well formed
 record Grown (bytes out : List ℕ) (i : ℕ) (t : Turn) : Type 0 where
   moves : i ≤ t .used
+  bound : t .used ≤ length bytes
   fits : t .len ≤ length out
   kept : drop (t .len) (t .out) ≡ drop (t .len) out
   long : length (t .out) ≡ length out
+  formed : Formed (t .next)
 
-grown-stopped : (n at : ℕ) (s : State) (bytes out : List ℕ) (i : ℕ) (text : List ℕ) → length text ≤ length out → Grown bytes out i (stopped n at s out i text)
-grown-stopped n at s bytes out i text h =
-    record { moves = omega arith; fits = h; kept = drop-append-seam text (drop (length text) out); long = written-length text out h }
+grown-stopped : (n at : ℕ) (s : State) (bytes out : List ℕ) (i : ℕ) (text : List ℕ) → Formed s → i ≤ length bytes → length text ≤ length out
+    → Grown bytes out i (stopped n at s out i text)
+grown-stopped n at s bytes out i text f g h =
+    record { moves = omega arith; bound = g; fits = h; kept = drop-append-seam text (drop (length text) out); long = written-length text out h; formed = f }
 
-grown : (k n at : ℕ) (s : State) (bytes out : List ℕ) (i : ℕ) (text : List ℕ) → Formed s → length text ≤ length out → Grown bytes out i (fill k n at s bytes out i text)
+grown : (k n at : ℕ) (s : State) (bytes out : List ℕ) (i : ℕ) (text : List ℕ) → Formed s → i ≤ length bytes → length text ≤ length out
+    → Grown bytes out i (fill k n at s bytes out i text)
 unfolding fill
-grown zero n at s bytes out i text f h = grown-stopped n at s bytes out i text h
-grown (suc k) n at s bytes out i text f h =
+grown zero n at s bytes out i text f g h = grown-stopped n at s bytes out i text f g h
+grown (suc k) n at s bytes out i text f g h =
     choose i (length bytes) (length out) (length text + 128)
     (λ x y.
       let rest = drop i bytes in
       let room = drop (length text) out in
       let t = listed n at s rest room in
       let r = turn-room n at s bytes out i text y in
+      let u : t .used ≤ length bytes - i = rw length-drop at (turn-bound n at s rest room f r) in
       let b : length (text ++ take (t .len) (t .out)) ≤ length out =
       rw length-append (omega (arith, turn-len n at s rest room f r, turn-length n at s rest room f r)) in
-      let g = grown k (t .n) (t .at) (t .next) bytes out (i + t .used) (text ++ take (t .len) (t .out)) (turn-formed n at s rest room f r) b in
-      rw (fill-on n at s bytes out i text k x y) (record { moves = omega (arith, g .moves); fits = g .fits; kept = g .kept; long = g .long }))
-    (λ x. rw (fill-end n at s bytes out i text (suc k) x) (grown-stopped n at s bytes out i text h))
-    (λ x. rw (fill-full n at s bytes out i text (suc k) x) (grown-stopped n at s bytes out i text h))
+      let d = grown k (t .n) (t .at) (t .next) bytes out (i + t .used) (text ++ take (t .len) (t .out)) (turn-formed n at s rest room f r) (omega arith) b in
+      rw (fill-on n at s bytes out i text k x y)
+      (record { moves = omega (arith, d .moves); bound = d .bound; fits = d .fits; kept = d .kept; long = d .long; formed = d .formed }))
+    (λ x. rw (fill-end n at s bytes out i text (suc k) x) (grown-stopped n at s bytes out i text f g h))
+    (λ x. rw (fill-full n at s bytes out i text (suc k) x) (grown-stopped n at s bytes out i text f g h))
 
 -- where bytes are left, no room for a line is
 fill-stops : (k n at : ℕ) (s : State) (bytes out : List ℕ) (i : ℕ) (text : List ℕ) → Formed s → length bytes ≤ i + k
@@ -255,7 +261,7 @@ fill-stops (suc k) n at s bytes out i text f h =
 -- a call that is not refused
 module _ (n at : ℕ) (s : State) (bytes out : List ℕ) (f : Formed s) (r : 128 ≤ length out) where
   filled-grown : Grown bytes out 0 (filled n at s bytes out)
-  filled-grown = rw (filled-taken n at s bytes out f r) (grown (length bytes) n at s bytes out 0 [] f (omega arith))
+  filled-grown = rw (filled-taken n at s bytes out f r) (grown (length bytes) n at s bytes out 0 [] f (omega arith) (omega arith))
 
   -- the output is as long as before, and the bytes after the text are as they were
   pub filled-long : length (filled n at s bytes out .out) ≡ length out
@@ -267,6 +273,12 @@ module _ (n at : ℕ) (s : State) (bytes out : List ℕ) (f : Formed s) (r : 128
   pub filled-kept : drop (filled n at s bytes out .len) (filled n at s bytes out .out) ≡ drop (filled n at s bytes out .len) out
   filled-kept = filled-grown .kept
 
+  pub filled-formed : Formed (filled n at s bytes out .next)
+  filled-formed = filled-grown .formed
+
+  pub filled-bound : filled n at s bytes out .used ≤ length bytes
+  filled-bound = filled-grown .bound
+
   -- a byte at least is used, where there is one
   pub filled-moves : 0 < length bytes → 1 ≤ filled n at s bytes out .used
   filled-moves h =
@@ -275,10 +287,26 @@ module _ (n at : ℕ) (s : State) (bytes out : List ℕ) (f : Formed s) (r : 128
       let t = listed n at s bytes out in
       let w = turn-moves n at s bytes out f r h in
       let b : length (take (t .len) (t .out)) ≤ length out = omega (arith, turn-len n at s bytes out f r, turn-length n at s bytes out f r) in
-      let g = grown k (t .n) (t .at) (t .next) bytes out (0 + t .used) (take (t .len) (t .out)) (turn-formed n at s bytes out f r) b in
+      let g = grown k (t .n) (t .at) (t .next) bytes out (0 + t .used) (take (t .len) (t .out)) (turn-formed n at s bytes out f r) (omega (arith, turn-bound n at s bytes out f r)) b in
       rw (filled-taken n at s bytes out f r ∙ ap (λ (j : ℕ). fill j n at s bytes out 0 []) one ∙ fill-on n at s bytes out 0 [] k h (omega arith))
       (omega (arith, g .moves))
 
   -- and all, unless less than 128 bytes of room are left
   pub filled-stops : filled n at s bytes out .used < length bytes → length out < filled n at s bytes out .len + 128
   filled-stops = rw (filled-taken n at s bytes out f r) (fill-stops (length bytes) n at s bytes out 0 [] f (omega arith))
+
+-- what a loop over the rest of the input goes by: it moves, stays inside, and the decoder stays well formed
+pub filled-rest : (r : Listed) (buf new : List ℕ) (n at : ℕ) (s : State) (bytes out : List ℕ) (i : ℕ) → Formed s → 128 ≤ length out → i < length bytes
+    → toldListed r buf new ≡ filled n at s (take (length bytes - i) (drop i bytes)) out
+    → (1 ≤ r .used) × (i + r .used ≤ length bytes) × (r .len ≤ length out) × (r .place .decoder .count ≤ 1024)
+filled-rest r buf new n at s bytes out i f h k e =
+    let rest = take (length bytes - i) (drop i bytes) in
+    let d : length rest ≡ length bytes - i = length-take-le (length bytes - i) (drop i bytes) (rw length-drop (omega arith)) in
+    let u : r .used ≡ filled n at s rest out .used = ap (λ (t : Turn). t .used) e in
+    let v : r .len ≡ filled n at s rest out .len = ap (λ (t : Turn). t .len) e in
+    let c : r .place .decoder .count ≡ filled n at s rest out .next .count = ap (λ (t : Turn). t .next .count) e in (
+      omega (arith, filled-moves n at s rest out f h (omega arith)),
+      omega (arith, filled-bound n at s rest out f h),
+      omega (arith, filled-fits n at s rest out f h),
+      omega (arith, filled-formed n at s rest out f h .small),
+    )
