@@ -8,12 +8,12 @@ use mathlib.Core.List.{List, [], _∷_, _++_, append-assoc}
 use lib.ListN.{length, take, drop, length-append, length-drop}
 use lib.Seq.{take-append-seam, drop-drop}
 use Rattle.field.specs.Pick.{pick}
-use Rattle.framing.specs.Decode.{State, base, step, after, payloadOf}
+use Rattle.framing.specs.Decode.{State, base, step, after}
 use Rattle.framing.specs.Feed.{fed, isQuiet, Formed}
 use Rattle.framing.specs.FeedLaws.{fed-bound}
 use Rattle.framing.specs.Unstuff as unstuff
 use Rattle.framing.specs.UnstuffLaws.{after-append}
-use Rattle.framing.specs.FormedLaws.{fed-event, after-fed}
+use Rattle.framing.specs.FormedLaws.{fed-event, after-fed, after-formed}
 use Rattle.report.specs.Listing.{listing, Turn, listed}
 use Rattle.report.specs.ListingLaws.{listed-taken, listed-listing, events, events-fed, listing-append}
 use Rattle.report.specs.Filled.{stopped, fill, filled}
@@ -93,22 +93,22 @@ fills zero n at s bytes out i text formed h l m = fills-stopped n at s bytes out
 fills (suc k) n at s bytes out i text formed h l m =
     choose i (length bytes) (length out) (length text + 128)
     (λ x y.
-      let rest = drop i bytes in
-      let room = drop (length text) out in
-      let t = listed n at s rest room in
-      let line = take (t .len) (t .out) in
-      let d : length rest ≡ length bytes - i = length-drop i bytes in
-      let r = turn-room n at s bytes out i text y in
-      let b = turn-bound n at s rest room formed r in
-      let g = turn-goes n at s rest room formed r (omega arith) (omega arith) in
-      let f = fills k (t .n) (t .at) (t .next) bytes out (i + t .used) (text ++ line) (turn-formed n at s rest room formed r) (omega arith) (omega (arith, g .numbers)) (omega (arith, g .offsets)) in
-      let v : ahead (text ++ line) (whole (t .n) (t .at) (t .next) (drop (i + t .used) bytes)) ≡ ahead text (whole n at s rest) =
-      ap (λ (u : List ℕ). ahead (text ++ line) (whole (t .n) (t .at) (t .next) u)) (sym (drop-drop (t .used) i bytes))
-      ∙ ap (λ (u : List ℕ). record { text = u; n = t .n + events (t .next) (drop (t .used) rest); at = t .at + length (drop (t .used) rest); next = after (t .next) (drop (t .used) rest) })
-      (append-assoc text line (listing (t .n) (t .at) (t .next) (drop (t .used) rest)))
-      ∙ ap (ahead text) (g .same) in
-      rw (fill-on n at s bytes out i text k x y)
-      (record { numbers = f .numbers; offsets = f .offsets; same = f .same ∙ v }))
+    let rest = drop i bytes in
+    let room = drop (length text) out in
+    let t = listed n at s rest room in
+    let line = take (t .len) (t .out) in
+    let d : length rest ≡ length bytes - i = length-drop i bytes in
+    let r = turn-room n at s bytes out i text y in
+    let b = turn-bound n at s rest room formed r in
+    let g = turn-goes n at s rest room formed r (omega arith) (omega arith) in
+    let f = fills k (t .n) (t .at) (t .next) bytes out (i + t .used) (text ++ line) (turn-formed n at s rest room formed r) (omega arith) (omega (arith, g .numbers)) (omega (arith, g .offsets)) in
+    let v : ahead (text ++ line) (whole (t .n) (t .at) (t .next) (drop (i + t .used) bytes)) ≡ ahead text (whole n at s rest) =
+    ap (λ (u : List ℕ). ahead (text ++ line) (whole (t .n) (t .at) (t .next) u)) (sym (drop-drop (t .used) i bytes))
+    ∙ ap (λ (u : List ℕ). record { text = u; n = t .n + events (t .next) (drop (t .used) rest); at = t .at + length (drop (t .used) rest); next = after (t .next) (drop (t .used) rest) })
+    (append-assoc text line (listing (t .n) (t .at) (t .next) (drop (t .used) rest)))
+    ∙ ap (ahead text) (g .same) in
+    rw (fill-on n at s bytes out i text k x y)
+    (record { numbers = f .numbers; offsets = f .offsets; same = f .same ∙ v }))
     (λ x. rw (fill-end n at s bytes out i text (suc k) x) (fills-stopped n at s bytes out i text l m))
     (λ x. rw (fill-full n at s bytes out i text (suc k) x) (fills-stopped n at s bytes out i text l m))
 
@@ -176,3 +176,46 @@ whole-append n at s xs ys =
     ap (λ (k : ℕ). n + k) (events-append s xs ys) ∙ sym (add-assoc n (events s xs) (events (after s xs) ys)) in
     let f : at + length (xs ++ ys) ≡ at + length xs + length ys = rw length-append (omega arith) in
     λ i. record { text = listing-append n at s xs ys i; n = e i; at = f i; next = after-append base s xs ys i }
+
+-- a chunk of the input, and the output as it stands when the chunk is read, with room for a line
+pub record Chunk : Type 0 where
+  pub bytes : List ℕ
+  pub out : List ℕ
+  pub room : 128 ≤ length out
+
+-- the whole input
+unfoldable pub input : List Chunk → List ℕ
+input [] = []
+input (c ∷ cs) = c .bytes ++ input cs
+
+-- calls for each chunk, until its bytes are used up
+unfoldable pub chunked : ℕ → ℕ → State → List Chunk → Run
+chunked n at s [] = record { text = []; n = n; at = at; next = s }
+chunked n at s (c ∷ cs) =
+    let p = calls (length (c .bytes)) n at s (c .bytes) (c .out) in
+    followed p (chunked (p .n) (p .at) (p .next) cs)
+
+fewer : (t : Bool) (k m : ℕ) → k ≤ m → pick t k (1 + k) ≤ suc m
+fewer true k m h = omega arith
+fewer false k m h = omega arith
+
+-- no more events than bytes
+pub events-most : (s : State) (bs : List ℕ) → events s bs ≤ length bs
+unfolding events
+events-most s [] = omega arith
+events-most s (b ∷ bs) = fewer (isQuiet (step s b .outcome)) (events (step s b .next) bs) (length bs) (events-most (step s b .next) bs)
+
+-- however the input is cut into chunks, what is written is its whole listing, while numbers and offsets stay below 2^64
+pub chunked-listing : (n at : ℕ) (s : State) (cs : List Chunk) → Formed s → n + 1 + length (input cs) < 2 ^ 64 → at + length (input cs) < 2 ^ 64
+    → chunked n at s cs ≡ whole n at s (input cs)
+unfolding chunked input listing events unstuff.after
+chunked-listing n at s [] f l m = λ i. record { text = []; n = sym (add-zero n) i; at = sym (add-zero at) i; next = s }
+chunked-listing n at s (c ∷ cs) f l m =
+    let d : length (c .bytes ++ input cs) ≡ length (c .bytes) + length (input cs) = length-append (c .bytes) (input cs) in
+    let p = whole n at s (c .bytes) in
+    let e : calls (length (c .bytes)) n at s (c .bytes) (c .out) ≡ p =
+    calls-listing (length (c .bytes)) n at s (c .bytes) (c .out) f (omega arith) (c .room) (omega arith) (omega arith) in
+    ap (λ (r : Run). followed r (chunked (r .n) (r .at) (r .next) cs)) e
+    ∙ ap (followed p)
+    (chunked-listing (p .n) (p .at) (p .next) cs (after-formed s (c .bytes) f) (omega (arith, events-most s (c .bytes))) (omega arith))
+    ∙ sym (whole-append n at s (c .bytes) (input cs))

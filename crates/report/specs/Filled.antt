@@ -1,6 +1,6 @@
 -- What one call of `list_lines` does: calls of `list_bytes`, each with the rest of the bytes and the rest of the output. Assumes nothing.
 use Prim.Native.Nat.{ℕ, zero, suc, _+_}
-use mathlib.Core.List.{List, [], _∷_, _++_}
+use mathlib.Core.List.{List, [], _++_}
 use lib.Dec.{ltb, eqb}
 use lib.ListN.{length, take, drop}
 use Rattle.field.specs.Pick.{pick}

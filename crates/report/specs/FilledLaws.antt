@@ -1,10 +1,9 @@
 -- What one call of `list_lines` does, case by case, and what its loop goes by. Assumes nothing.
 use Prim.Native.Nat.{ℕ, zero, suc, _+_, _-_, _%_, _^_, _≤_, _<_}
-use native.Mathlib.Nat.{add-zero, zero-add}
 use native.Mathlib.Omega.{arith}
 use mathlib.Core.Path.{_≡_, refl, ap, ap₂, sym, _∙_}
 use mathlib.Core.Bool.{Bool, true, false}
-use mathlib.Core.List.{List, [], _∷_, _++_}
+use mathlib.Core.List.{List, [], _++_}
 use borrow.Author.Tests.{lt-ltb, le-ltb, ltb-true, ltb-false, eq-eqb, ne-eqb}
 use borrow.Rule.Slice.PartMut.{putMid}
 use lib.Dec.{ltb}
@@ -108,14 +107,14 @@ fill-same (suc j) zero n at s bytes out i text f g h =
 fill-same (suc j) (suc k) n at s bytes out i text f g h =
     choose i (length bytes) (length out) (length text + 128)
     (λ x y.
-      let rest = drop i bytes in
-      let room = drop (length text) out in
-      let t = listed n at s rest room in
-      let r = turn-room n at s bytes out i text y in
-      let u = turn-moves n at s rest room f r (turn-bytes n at s bytes out i text x) in
-      fill-on n at s bytes out i text j x y
-      ∙ fill-same j k (t .n) (t .at) (t .next) bytes out (i + t .used) (text ++ take (t .len) (t .out)) (turn-formed n at s rest room f r) (omega arith) (omega arith)
-      ∙ sym (fill-on n at s bytes out i text k x y))
+    let rest = drop i bytes in
+    let room = drop (length text) out in
+    let t = listed n at s rest room in
+    let r = turn-room n at s bytes out i text y in
+    let u = turn-moves n at s rest room f r (turn-bytes n at s bytes out i text x) in
+    fill-on n at s bytes out i text j x y
+    ∙ fill-same j k (t .n) (t .at) (t .next) bytes out (i + t .used) (text ++ take (t .len) (t .out)) (turn-formed n at s rest room f r) (omega arith) (omega arith)
+    ∙ sym (fill-on n at s bytes out i text k x y))
     (λ x. fill-end n at s bytes out i text (suc j) x ∙ sym (fill-end n at s bytes out i text (suc k) x))
     (λ x. fill-full n at s bytes out i text (suc j) x ∙ sym (fill-full n at s bytes out i text (suc k) x))
 
@@ -193,7 +192,7 @@ filling n at s bytes old out i m r buf last formed h k l p q e =
 
 -- where the loop stands, in the answer's terms
 module _ (n at : ℕ) (s : State) (bytes old out : List ℕ) (i m k : ℕ) (t : Turn) (h : m ≤ length out) (q : out ≡ written (take m out) old)
-  (e : t ≡ fill k n at s bytes old i (take m out)) where
+    (e : t ≡ fill k n at s bytes old i (take m out)) where
   ended : record { next = s; n = n; at = at; used = i; len = m; number = 0; out = out } ≡ stopped n at s old i (take m out)
   ended = λ z. record { next = s; n = n; at = at; used = i; len = sym (length-take-le m out h) z; number = 0; out = q z }
 
@@ -226,16 +225,16 @@ grown zero n at s bytes out i text f g h = grown-stopped n at s bytes out i text
 grown (suc k) n at s bytes out i text f g h =
     choose i (length bytes) (length out) (length text + 128)
     (λ x y.
-      let rest = drop i bytes in
-      let room = drop (length text) out in
-      let t = listed n at s rest room in
-      let r = turn-room n at s bytes out i text y in
-      let u : t .used ≤ length bytes - i = rw length-drop at (turn-bound n at s rest room f r) in
-      let b : length (text ++ take (t .len) (t .out)) ≤ length out =
-      rw length-append (omega (arith, turn-len n at s rest room f r, turn-length n at s rest room f r)) in
-      let d = grown k (t .n) (t .at) (t .next) bytes out (i + t .used) (text ++ take (t .len) (t .out)) (turn-formed n at s rest room f r) (omega arith) b in
-      rw (fill-on n at s bytes out i text k x y)
-      (record { moves = omega (arith, d .moves); bound = d .bound; fits = d .fits; kept = d .kept; long = d .long; formed = d .formed }))
+    let rest = drop i bytes in
+    let room = drop (length text) out in
+    let t = listed n at s rest room in
+    let r = turn-room n at s bytes out i text y in
+    let u : t .used ≤ length bytes - i = rw length-drop at (turn-bound n at s rest room f r) in
+    let b : length (text ++ take (t .len) (t .out)) ≤ length out =
+    rw length-append (omega (arith, turn-len n at s rest room f r, turn-length n at s rest room f r)) in
+    let d = grown k (t .n) (t .at) (t .next) bytes out (i + t .used) (text ++ take (t .len) (t .out)) (turn-formed n at s rest room f r) (omega arith) b in
+    rw (fill-on n at s bytes out i text k x y)
+    (record { moves = omega (arith, d .moves); bound = d .bound; fits = d .fits; kept = d .kept; long = d .long; formed = d .formed }))
     (λ x. rw (fill-end n at s bytes out i text (suc k) x) (grown-stopped n at s bytes out i text f g h))
     (λ x. rw (fill-full n at s bytes out i text (suc k) x) (grown-stopped n at s bytes out i text f g h))
 
@@ -248,13 +247,13 @@ fill-stops zero n at s bytes out i text f h = λ u. absurd (omega arith)
 fill-stops (suc k) n at s bytes out i text f h =
     choose i (length bytes) (length out) (length text + 128)
     (λ x y.
-      let rest = drop i bytes in
-      let room = drop (length text) out in
-      let t = listed n at s rest room in
-      let r = turn-room n at s bytes out i text y in
-      let w = turn-moves n at s rest room f r (turn-bytes n at s bytes out i text x) in
-      rw (fill-on n at s bytes out i text k x y)
-      (fill-stops k (t .n) (t .at) (t .next) bytes out (i + t .used) (text ++ take (t .len) (t .out)) (turn-formed n at s rest room f r) (omega arith)))
+    let rest = drop i bytes in
+    let room = drop (length text) out in
+    let t = listed n at s rest room in
+    let r = turn-room n at s bytes out i text y in
+    let w = turn-moves n at s rest room f r (turn-bytes n at s bytes out i text x) in
+    rw (fill-on n at s bytes out i text k x y)
+    (fill-stops k (t .n) (t .at) (t .next) bytes out (i + t .used) (text ++ take (t .len) (t .out)) (turn-formed n at s rest room f r) (omega arith)))
     (λ x. rw (fill-end n at s bytes out i text (suc k) x) (λ u. absurd (omega arith)))
     (λ x. rw (fill-full n at s bytes out i text (suc k) x) (λ u. x))
 

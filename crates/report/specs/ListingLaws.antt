@@ -8,15 +8,15 @@ use mathlib.Core.Bool.{Bool, true, false}
 use mathlib.Core.List.{List, [], _∷_, _++_, append-assoc}
 use borrow.Author.Tests.{le-ltb, ltb-false, eq-eqb, ne-eqb}
 use lib.Dec.{ltb}
-use lib.ListN.{length, take, drop, length-drop}
-use lib.Seq.{take-append-seam, length-take-le}
+use lib.ListN.{length, take, drop}
+use lib.Seq.{take-append-seam}
 use Rattle.field.specs.Pick.{pick}
 use Rattle.field.specs.Written.{written}
 use Rattle.framing.specs.Decode.{Outcome, quiet, message, error, refused, State, Step, step, after, outcomeOf, payloadOf}
 use Rattle.framing.specs.Feed.{Feed, fed, toldFed, isQuiet, taken, Formed}
 use Rattle.framing.specs.FeedLaws.{joined, fed-bound}
 use Rattle.framing.specs.Unstuff as unstuff
-use Rattle.framing.specs.FormedLaws.{step-formed, step-takes, fed-moves, fed-event, fed-formed}
+use Rattle.framing.specs.FormedLaws.{step-formed, step-takes, fed-event}
 use Rattle.framing.specs.declared.Fed.{Fed}
 use Rattle.field.specs.Puts.{Puts, puts-written}
 use Rattle.report.specs.Line.{lineOf}

@@ -1,19 +1,13 @@
 -- `listing::list_chunk` meets its contract. Assumes nothing.
 use Prim.Native.Nat.{_+_, _≤_, _-_}
 use native.Mathlib.Omega.{arith}
-use mathlib.Core.Path.{sym, _∙_, _≡_}
+use mathlib.Core.Path.{sym, _≡_}
+use borrow.Author.Needs.{needs}
 use lib.Seq.{length-take-le}
 use lib.ListN.{length}
-use Rattle.framing.specs.Feed.{Formed}
-use Rattle.report.specs.Listing.{stateOf}
 use Rattle.report.specs.FilledLaws.{filled-rest}
-use borrow.Author.Needs.{needs}
 use Rattle.listing.proofs.list_chunk.Statement.{statement}
 use Rattle.listing.proofs.list_chunk.Tie as tie
-use Rattle.listing.proofs.list_chunk.Reads as reads
-use Rattle.listing.proofs.list_chunk.Lts as lts
-use Rattle.io.proofs.write_all.Reads as write-all-reads
-use Rattle.report.proofs.list_lines.Reads as list-lines-reads
 
 abbrev Inv-loop : tie.InvT-loop
 Inv-loop buf₀ bytes out₀ place₀ i₀ buf out place i = (i ≤ length bytes) × (length out ≡ length out₀) × (length buf ≡ length buf₀) × (place .decoder .count ≤ 1024)
@@ -33,71 +27,57 @@ moved c =
     filled-rest (c .list-lines .result) _ _ _ _ _ (l .before .before .before .before .args .bytes .now) (l .loop .out) (l .loop .i)
     (record { small = v .3; room = omega (arith, v .2) }) (omega (arith, v .1)) (w .loop-test .taken) (c .list-lines .ensures)
 
--- src/main.rt:16:5
 loop-holds : tie.Need-loop-holds Inv-loop μ-loop
 loop-holds c = search needs
 
--- src/main.rt:17:48
 sub-list-lines : tie.Need-sub-list-lines Inv-loop μ-loop
 sub-list-lines c = search needs
 
--- src/main.rt:17:48
 part-list-lines-start : tie.Need-part-list-lines-start Inv-loop μ-loop
 part-list-lines-start c = search needs
 
--- src/main.rt:17:48
 part-list-lines-end : tie.Need-part-list-lines-end Inv-loop μ-loop
 part-list-lines-end c = search needs
 
--- src/main.rt:17:13
 list-lines-requires : tie.Need-list-lines-requires Inv-loop μ-loop
 list-lines-requires c κs = search needs
 
--- src/main.rt:19:38
 slice-reshare-prefix-write-all : tie.Need-slice-reshare-prefix-write-all Inv-loop μ-loop
 slice-reshare-prefix-write-all c =
     let r = c .before .before .before .before in
     omega (arith, moved r .2, r .list-lines .kept)
 
--- src/main.rt:19:38
 slice-aggregate-write-all : tie.Need-slice-aggregate-write-all Inv-loop μ-loop
 slice-aggregate-write-all c =
     let r = c .before .before .before .before .before in
     sym (length-take-le _ _ (omega (arith, moved r .2, r .list-lines .kept)))
 
--- src/main.rt:19:9
 write-all-requires : tie.Need-write-all-requires Inv-loop μ-loop
 write-all-requires c κs = search needs
 
--- src/main.rt:21:9
 add-i : tie.Need-add-i Inv-loop μ-loop
 add-i c =
     let r = c .before .before .before .before .before .before .before .before in
     let s = r .before .before .before .before .before .before .before .before .before in
     omega (arith, moved r .1, s .good)
 
--- src/main.rt:16:5
 loop-less : tie.Need-loop-less Inv-loop μ-loop
 loop-less c =
     let r = c .before .before .before .before .before .before .before .before in
     omega (arith, moved r .0, moved r .1)
 
--- src/main.rt:16:5
 loop-again : tie.Need-loop-again Inv-loop μ-loop
 loop-again c =
     let r = c .before .before .before .before .before .before .before .before in
     let v = r .before .before .before .before .before .loop .inv in
     (moved r .1, omega (arith, r .list-lines .kept, v .1), omega (arith, r .list-lines .kept, v .2), moved r .3)
 
--- src/main.rt:10:1
 same-length : tie.Need-same-length Inv-loop μ-loop
 same-length c = search needs
 
--- src/main.rt:10:1
 same-length-2 : tie.Need-same-length-2 Inv-loop μ-loop
 same-length-2 c = search needs
 
--- src/main.rt:10:1
 returns : tie.Need-returns Inv-loop μ-loop
 returns c = search needs
 

@@ -1,23 +1,19 @@
 -- `report::listing::fill_lines` meets its contract. Assumes nothing.
-use Prim.Native.Nat.{ℕ, _+_, _≤_, _-_}
+use Prim.Native.Nat.{ℕ, _≤_, _-_}
 use native.Mathlib.Omega.{arith}
-use mathlib.Core.Path.{refl, ap, sym, _∙_, _≡_}
+use mathlib.Core.Path.{refl, ap, _∙_, _≡_}
 use mathlib.Core.List.{[]}
-use borrow.Rule.Slice.PartMut.{same-len-mid, putMid}
-use lib.ListN.{length, take, drop}
+use borrow.Rule.Slice.PartMut.{putMid}
+use borrow.Author.Needs.{needs}
+use lib.ListN.{length, take}
 use Rattle.field.specs.Written.{written}
 use Rattle.framing.specs.Feed.{Formed}
 use Rattle.report.specs.Listing.{stateOf}
 use Rattle.report.specs.Filled.{fill}
 use Rattle.report.specs.FilledLaws.{Filling, filling, filling-end, filling-full}
 use Rattle.report.specs.ListingLaws.{told-by}
-use borrow.Author.Needs.{needs}
 use Rattle.report.proofs.listing.fill_lines.Statement.{statement}
 use Rattle.report.proofs.listing.fill_lines.Tie as tie
-use Rattle.report.proofs.listing.fill_lines.Reads as reads
-use Rattle.report.proofs.listing.fill_lines.Lts as lts
-use Rattle.report.proofs.listing.answer.Reads as answer-reads
-use Rattle.report.proofs.listing.list_bytes.Reads as list-bytes-reads
 
 abbrev Inv-loop : tie.InvT-loop
 Inv-loop buf₀ bytes out₀ place₀ i₀ n₀ buf out place i n = (i ≤ length bytes) × (n ≤ length out) × (length out ≡ length out₀) × (length buf ≡ length buf₀) × Formed (stateOf place buf) × (out ≡ written (take n out) out₀) × (fill (length bytes) (place₀ .n) (place₀ .at) (stateOf place₀ buf₀) bytes out₀ 0 [] ≡ fill (length bytes - i) (place .n) (place .at) (stateOf place buf) bytes out₀ i (take n out))
@@ -41,30 +37,24 @@ moved c =
     let v = l .loop .inv in
     filling _ _ _ (a .bytes .now) (a .out .now) (l .loop .out) (l .loop .i) (l .loop .n) (r .result) _ _ (v .4) (e .before .loop-test .taken) (v .1) (e .if1 .left) (v .2) (v .5) (r .ensures)
 
--- src/listing.rt:123:5
 loop-holds : tie.Need-loop-holds Inv-loop μ-loop
 loop-holds c =
     let a = c .before .before .before .args in
     let e : length (a .bytes .now) ≡ length (a .bytes .now) - 0 = omega arith in
     (omega arith, omega arith, refl, refl, c .before .before .before .pre, refl, ap (λ (k : ℕ). fill k (a .start .n) (a .start .at) (stateOf (a .start) (a .buf .now)) (a .bytes .now) (a .out .now) 0 []) e)
 
--- src/listing.rt:124:12
 sub-if1 : tie.Need-sub-if1 Inv-loop μ-loop
 sub-if1 c = search needs
 
--- src/listing.rt:125:13
 answer-requires : tie.Need-answer-requires Inv-loop μ-loop
 answer-requires c κs = search needs
 
--- src/listing.rt:125:13
 same-length : tie.Need-same-length Inv-loop μ-loop
 same-length c = search needs
 
--- src/listing.rt:125:13
 same-length-2 : tie.Need-same-length-2 Inv-loop μ-loop
 same-length-2 c = search needs
 
--- src/listing.rt:125:13
 returns : tie.Need-returns Inv-loop μ-loop
 returns c =
     let t = c .before in
@@ -72,55 +62,44 @@ returns c =
     let v = l .loop .inv in
     told-by (c .answer .ensures) (filling-full _ _ _ _ _ _ _ _ _ _ (v .1) (v .5) (v .6) (v .2) (t .if1 .taken))
 
--- src/listing.rt:127:40
 sub-list-bytes : tie.Need-sub-list-bytes Inv-loop μ-loop
 sub-list-bytes c = search needs
 
--- src/listing.rt:127:40
 part-list-bytes-start : tie.Need-part-list-bytes-start Inv-loop μ-loop
 part-list-bytes-start c = search needs
 
--- src/listing.rt:127:40
 part-list-bytes-end : tie.Need-part-list-bytes-end Inv-loop μ-loop
 part-list-bytes-end c = search needs
 
--- src/listing.rt:127:53
 sub-list-bytes-2 : tie.Need-sub-list-bytes-2 Inv-loop μ-loop
 sub-list-bytes-2 c = search needs
 
--- src/listing.rt:127:53
 part-list-bytes-start-2 : tie.Need-part-list-bytes-start-2 Inv-loop μ-loop
 part-list-bytes-start-2 c = search needs
 
--- src/listing.rt:127:53
 part-list-bytes-end-2 : tie.Need-part-list-bytes-end-2 Inv-loop μ-loop
 part-list-bytes-end-2 c = search needs
 
--- src/listing.rt:127:13
 list-bytes-requires : tie.Need-list-bytes-requires Inv-loop μ-loop
 list-bytes-requires c κs = search needs
 
--- src/listing.rt:129:9
 add-i : tie.Need-add-i Inv-loop μ-loop
 add-i c =
     let r = c .before .before .before .before .before .before in
     let s = r .before .before .before .before .before .before .before .before .before .before in
     omega (arith, moved r .inside, s .good)
 
--- src/listing.rt:130:9
 add-n : tie.Need-add-n Inv-loop μ-loop
 add-n c =
     let r = c .before .before .before .before .before .before .before in
     let s = r .before .before .before .before .before .before .before .before .before .before in
     omega (arith, moved r .fits, moved r .long, s .good)
 
--- src/listing.rt:123:5
 loop-less : tie.Need-loop-less Inv-loop μ-loop
 loop-less c =
     let r = c .before .before .before .before .before .before .before in
     omega (arith, moved r .moves, moved r .inside)
 
--- src/listing.rt:123:5
 loop-again : tie.Need-loop-again Inv-loop μ-loop
 loop-again c =
     let r = c .before .before .before .before .before .before .before in
@@ -128,19 +107,15 @@ loop-again c =
     let f = moved r in
     (f .inside, f .fits, f .long, search needs, f .formed, f .kept, v .6 ∙ f .same)
 
--- src/listing.rt:132:5
 answer-requires-2 : tie.Need-answer-requires-2 Inv-loop μ-loop
 answer-requires-2 c κs = search needs
 
--- src/listing.rt:116:1
 same-length-3 : tie.Need-same-length-3 Inv-loop μ-loop
 same-length-3 c = search needs
 
--- src/listing.rt:116:1
 same-length-4 : tie.Need-same-length-4 Inv-loop μ-loop
 same-length-4 c = search needs
 
--- src/listing.rt:116:1
 returns-2 : tie.Need-returns-2 Inv-loop μ-loop
 returns-2 c =
     let w = c .before in

@@ -1,14 +1,14 @@
 -- `report::listing::list_bytes` meets its contract. Assumes nothing.
+use Prim.Native.Nat.{_≤_}
 use native.Mathlib.Omega.{arith}
 use mathlib.Core.Bool.{false}
 use mathlib.Core.List.{[], _∷_}
 use mathlib.Core.Logic.{⊎-elim}
 use mathlib.Core.Path.{_≡_, refl, ap, sym, _∙_}
 use borrow.Author.Needs.{needs}
-use lib.ListN.{length}
-use Prim.Native.Nat.{_≤_}
 use types.Run.{OneOf}
 use denote.Enum.Declared.{tagOf}
+use lib.ListN.{length}
 use Rattle.framing.proofs.Event.{the-type}
 use Rattle.framing.specs.declared.Event.{Event}
 use Rattle.framing.specs.declared.Event.the-variants.{Quiet, Message, ShortMessage, BadChecksum, LengthMismatch, BadEscape, TooLong, Refused}

@@ -1,19 +1,12 @@
 -- `report::listing::list_lines` meets its contract. Assumes nothing.
 use Prim.Native.Nat.{_≤_}
 use mathlib.Core.Path.{sym, _∙_}
-use Rattle.framing.specs.Feed.{Formed}
-use Rattle.report.specs.Listing.{stateOf}
+use borrow.Author.Needs.{needs}
+use lib.ListN.{length}
 use Rattle.report.specs.ListingLaws.{refusal-none, told-by}
 use Rattle.report.specs.FilledLaws.{filled-refused, filled-taken}
-use lib.ListN.{length}
-use borrow.Author.Needs.{needs}
 use Rattle.report.proofs.listing.list_lines.Statement.{statement}
 use Rattle.report.proofs.listing.list_lines.Tie as tie
-use Rattle.report.proofs.listing.list_lines.Reads as reads
-use Rattle.report.proofs.listing.list_lines.Lts as lts
-use Rattle.report.proofs.listing.fill_lines.Reads as fill-lines-reads
-use Rattle.report.proofs.listing.refusal.Reads as refusal-reads
-use Rattle.report.proofs.listing.refused.Reads as refused-reads
 
 -- nothing is refused
 passed : (e : tie.Else1)
@@ -21,34 +14,27 @@ passed : (e : tie.Else1)
     (a .place .decoder .count ≤ 1024) × (1024 ≤ length (a .buf .now)) × (128 ≤ length (a .out .now))
 passed e = refusal-none _ _ _ (sym (e .before .refusal .ensures) ∙ e .if1 .left)
 
--- src/listing.rt:141:9
 refusal-requires : tie.Need-refusal-requires
 refusal-requires c κs = search needs
 
--- src/listing.rt:143:9
 refused-requires : tie.Need-refused-requires
 refused-requires c κs = search needs
 
--- src/listing.rt:143:9
 returns : tie.Need-returns
 returns c =
     let t = c .before in
     let f = t .before in
     told-by (c .refused .ensures) (sym (filled-refused _ _ _ _ _ (f .refusal .result) (f .refusal .ensures) (t .if1 .taken)))
 
--- src/listing.rt:145:5
 fill-lines-requires : tie.Need-fill-lines-requires
 fill-lines-requires c κs = let p = passed (c .before .before) in record { small = p .0; room = p .1 }
 
--- src/listing.rt:137:1
 same-length : tie.Need-same-length
 same-length c = search needs
 
--- src/listing.rt:137:1
 same-length-2 : tie.Need-same-length-2
 same-length-2 c = search needs
 
--- src/listing.rt:137:1
 returns-2 : tie.Need-returns-2
 returns-2 c =
     let f = c .before .before .before .before in

@@ -2,8 +2,6 @@
 use borrow.Author.Tests.{lt-ltb, le-ltb}
 use Rattle.report.proofs.listing.refusal.Statement.{statement}
 use Rattle.report.proofs.listing.refusal.Tie as tie
-use Rattle.report.proofs.listing.refusal.Reads as reads
-use Rattle.report.proofs.listing.refusal.Lts as lts
 
 returns : tie.Need-returns
 returns c = rw (lt-ltb _ _ (c .if1 .taken))
