@@ -1,4 +1,4 @@
-// The listing of a byte stream: each call feeds bytes up to the first event and writes that event's line.
+// The listing of a byte stream: list_bytes feeds bytes up to the first event and writes its line, list_lines the lines of as many as there is room for.
 ghost use mathlib.Core.Path.{_≡_};
 ghost use mathlib.Core.List.{[]};
 ghost use Rattle.framing.specs.declared.Phase.{Phase};
@@ -19,7 +19,7 @@ pub struct Place {
     pub at: u64,
 }
 
-// What a call did: where the listing stands now, how many bytes were used, how long the line is (0: no event), and the number of the refusal or 0.
+// What a call did: where the listing stands now, how many bytes were used, how long the text is (0: no event), and the number of the refusal or 0.
 pub struct Listed {
     pub place: Place,
     pub used: usize,
