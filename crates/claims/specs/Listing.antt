@@ -1,5 +1,6 @@
--- Document 01's example of the listing program: the listing of 10 02 A1 01 41 1D 10 03 10 03 is the two lines printed there. Assumes nothing.
-use Prim.Native.Nat.{ℕ, _≤_}
+-- The listing program: what it writes is the listing, and document 01's example, where the listing of 10 02 A1 01 41 1D 10 03 10 03 is the
+-- two lines printed there. Assumes nothing.
+use Prim.Native.Nat.{ℕ, _+_, _^_, _≤_, _<_}
 use native.Mathlib.Omega.{arith}
 use mathlib.Core.Path.{_≡_, refl, ap, sym, _∙_}
 use mathlib.Core.List.{List, [], _∷_, _++_}
@@ -20,6 +21,14 @@ use Rattle.report.specs.Text.{asciiFrom, ascii, digits, decimal, hex2}
 use Rattle.report.specs.Line.{nameOf, nameText, bemOf, headOf, messageLine, errorLine, lineOf}
 use Rattle.report.specs.Listing.{listing}
 use Rattle.report.specs.ListingLaws.{turned, listing-fed}
+use Rattle.report.specs.Calls.{Run, Chunk, input, chunked, chunked-listing}
+
+-- "reads standard input and prints a line per event": however the input is cut into chunks, and whatever stood in the output, the calls of
+-- `list_lines`, each with the bytes that the one before left, write the listing of the whole input
+pub listing-written : (buf : List ℕ) (chunks : List Chunk) → 1024 ≤ length buf → 2 + length (input chunks) < 2 ^ 64
+    → chunked 1 0 (state Idle 0 buf) chunks .text ≡ listing 1 0 (state Idle 0 buf) (input chunks)
+listing-written buf chunks h l =
+    ap (λ (r : Run). r .text) (chunked-listing 1 0 (state Idle 0 buf) chunks (new-formed buf h) (omega arith) (omega arith))
 
 -- the second event: 10 03 while idle
 tail-line : (buf : List ℕ) → 1024 ≤ length buf → listing 2 8 (state Idle 0 buf) (0x10 ∷ 0x03 ∷ []) ≡ ascii "n=2 at=9 kind=err no=1\n"

@@ -6,25 +6,20 @@ use libc::STDIN_FILENO;
 use libc::STDOUT_FILENO;
 use report::Place;
 
-// Lists a chunk of the input. Lines are collected in out, and written where it runs short of room for one more and at the chunk's end.
+// Lists a chunk of the input: each call's lines are written before the next.
 fn list_chunk(start: Place, buf: &mut [u8], bytes: &[u8], out: &mut [u8]) -> Place
     requires { ⌜ (128 ≤ length (now out)) × (1024 ≤ length (now buf)) × (start .decoder .count ≤ 1024) ⌝ }
     ensures { λ r. ⌜ r .decoder .count ≤ 1024 ⌝ }
 {
     let mut place = start;
     let mut i = 0;
-    let mut n = 0;
     while i < bytes.len() {
-        if out.len() - n < report::LINE_ROOM {
-            io::write_all(STDOUT_FILENO, &out[..n]);
-            n = 0;
-        }
-        let r = report::list_bytes(place, buf, &bytes[i..], &mut out[n..]);
+        let r = report::list_lines(place, buf, &bytes[i..], out);
+        let len = r.len;
+        io::write_all(STDOUT_FILENO, &out[..len]);
         place = r.place;
         i += r.used;
-        n += r.len;
     }
-    io::write_all(STDOUT_FILENO, &out[..n]);
     place
 }
 

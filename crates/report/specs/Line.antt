@@ -2,14 +2,10 @@
 use Prim.Native.Nat.{ℕ}
 use mathlib.Core.Bool.{Bool, _||_}
 use mathlib.Core.List.{List, [], _∷_, _++_}
-use lib.Dec.{ltb, eqb}
-use lib.ListN.{length}
+use lib.Dec.{eqb}
 use Rattle.field.specs.Pick.{pick}
-use Rattle.field.specs.Written.{written}
 use Rattle.framing.specs.Decode.{Outcome, quiet, message, error, refused}
 use Rattle.report.specs.Text.{ascii, decimal, hex2}
-use Rattle.report.specs.declared.line.Line.{Line}
-use Rattle.report.specs.declared.line.Line.the-variants.{Written, Refused}
 use Rattle.report.specs.declared.names.ReplyName.{ReplyName}
 
 -- the reply bytes that have a name, and the name's number ("a fixed table of ten reply bytes and names decides")
@@ -70,20 +66,3 @@ lineOf n at quiet payload = []
 lineOf n at (message cmd len) payload = messageLine n at cmd len payload
 lineOf n at (error number values) payload = errorLine n at number
 lineOf n at (refused number) payload = errorLine n at number
-
--- the answer of a line's writer, with the output as it is left
-pub data Lined : Type 0 where
-  -- so many bytes were written
-  line-written : ℕ → List ℕ → Lined
-  -- the number of the refusal
-  line-refused : ℕ → List ℕ → Lined
-
-abbrev pub toldLine : Line → List ℕ → Lined
-toldLine (Written n) out = line-written n out
-toldLine (Refused number) out = line-refused number out
-
--- 7: the output is under 128 bytes; else the line, and the bytes after it as they were
-unfoldable pub lined : ℕ → ℕ → Outcome → List ℕ → List ℕ → Lined
-lined n at o payload out =
-    pick (ltb (length out) 128) (line-refused 7 out)
-    (line-written (length (lineOf n at o payload)) (written (lineOf n at o payload) out))

@@ -5,20 +5,16 @@ use native.Mathlib.Omega.{arith}
 use mathlib.Core.Path.{_≡_, refl, ap, _∙_}
 use mathlib.Core.Bool.{Bool, true, false}
 use mathlib.Core.List.{List, [], _∷_}
-use borrow.Author.Tests.{lt-ltb, le-ltb, eq-eqb, ne-eqb}
+use borrow.Author.Tests.{eq-eqb, ne-eqb}
 use lib.Dec.{eqb}
 use lib.ListN.{length, getD, drop, length-append}
 use lib.Seq.{drop-cons}
 use Rattle.field.specs.Pick.{pick}
-use Rattle.field.specs.Written.{written}
 use Rattle.framing.specs.Decode.{Outcome, quiet, message, error, refused}
 use Rattle.report.specs.Text.{asciiFrom, ascii, hex2}
 use Rattle.report.specs.TextLaws.{decimal-length}
-use Rattle.field.specs.Puts.{Puts, puts-written}
-use Rattle.report.specs.Line.{lookup, nameOf, nameText, isBem, bemOf, headOf, messageLine, errorLine, lineOf, Lined, line-written, line-refused, toldLine, lined}
+use Rattle.report.specs.Line.{lookup, nameOf, nameText, isBem, bemOf, headOf, messageLine, errorLine, lineOf}
 use Rattle.report.specs.declared.names.ReplyName.{ReplyName}
-use Rattle.report.specs.declared.line.Line.{Line}
-use Rattle.report.specs.declared.line.Line.the-variants.{Written, Refused}
 
 -- a search in any table: the entry at a place is the one that is found, or the search goes on
 search-step : (t : List ReplyName) (i b : ℕ) (z : ReplyName) → i < length t
@@ -99,30 +95,3 @@ line-length n at quiet payload = omega arith
 line-length n at (message cmd len) payload = message-length n at cmd len payload
 line-length n at (error number values) payload = error-length n at number
 line-length n at (refused number) payload = error-length n at number
-
--- an answer in the paper's terms tells the answer and the output: what a contract says by `toldLine` leaves neither open
-unfoldable pub lineBack : Lined → Line
-lineBack (line-written n out) = Written n
-lineBack (line-refused number out) = Refused number
-
-unfoldable pub lineOut : Lined → List ℕ
-lineOut (line-written n out) = out
-lineOut (line-refused number out) = out
-
-pub line-told : (r : Line) (out : List ℕ) → (lineBack (toldLine r out) ≡ r) × (lineOut (toldLine r out) ≡ out)
-unfolding lineBack lineOut
-line-told (Written n) out = (refl, refl)
-line-told (Refused number) out = (refl, refl)
-
--- what a writer answers, case by case
-pub lined-7 : (n at : ℕ) (o : Outcome) (payload out : List ℕ) → length out < 128 → lined n at o payload out ≡ line-refused 7 out
-unfolding lined
-lined-7 n at o payload out h = rw (lt-ltb (length out) 128 h)
-
-pub lined-by : (n at : ℕ) (o : Outcome) (payload out : List ℕ) {new : List ℕ} {r : ℕ} → 128 ≤ length out → Puts out 0 (lineOf n at o payload) new r
-    → line-written r new ≡ lined n at o payload out
-unfolding lined
-lined-by n at o payload out {new} {r} h p =
-    let e : new ≡ written (lineOf n at o payload) out = puts-written p (omega (arith, line-length n at o payload)) in
-    let f : r ≡ length (lineOf n at o payload) = omega (arith, p .after) in
-    rw (le-ltb (length out) 128 h, e, f)

@@ -18,7 +18,7 @@ listing n at s (b ∷ bs) =
     pick (isQuiet (step s b .outcome)) (listing n (at + 1) (step s b .next) bs)
     (lineOf n at (step s b .outcome) (payloadOf (step s b .outcome) (step s b .next .buffer)) ++ listing (n + 1) (at + 1) (step s b .next) bs)
 
--- what a call leaves: the decoder with its buffer, the next event's number, the next byte's offset, the bytes used, the line's length,
+-- what a call leaves: the decoder with its buffer, the next event's number, the next byte's offset, the bytes used, the text's length,
 -- the number of the refusal, and the output
 pub record Turn : Type 0 where
   pub next : State
@@ -54,8 +54,11 @@ abbrev pub fedLine : ℕ → ℕ → Feed → List ℕ
 fedLine n at f = lineOf n ((at + (f .used - 1)) % 2 ^ 64) (f .outcome) (payloadOf (f .outcome) (f .next .buffer))
 
 -- 16: the decoder's count is over 1,024; 7: its buffer is under 1,024 bytes, or the output under 128; 0: none
+abbrev pub refusalBy : ℕ → ℕ → ℕ → ℕ
+refusalBy count buf out = pick (ltb 1024 count) 16 (pick (ltb buf 1024) 7 (pick (ltb out 128) 7 0))
+
 abbrev pub refusalOf : State → List ℕ → ℕ
-refusalOf s out = pick (ltb 1024 (s .count)) 16 (pick (ltb (length (s .buffer)) 1024) 7 (pick (ltb (length out) 128) 7 0))
+refusalOf s out = refusalBy (s .count) (length (s .buffer)) (length out)
 
 -- a refusal changes nothing; else bytes are fed up to the first event, and its line is written.
 -- Numbers and offsets are counted modulo 2^64

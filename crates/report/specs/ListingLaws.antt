@@ -6,42 +6,48 @@ use native.Mathlib.Omega.{arith}
 use mathlib.Core.Path.{_≡_, refl, ap, sym, _∙_}
 use mathlib.Core.Bool.{Bool, true, false}
 use mathlib.Core.List.{List, [], _∷_, _++_, append-assoc}
-use borrow.Author.Tests.{lt-ltb, le-ltb}
-use lib.ListN.{length, take, drop, length-drop}
-use lib.Seq.{take-append-seam, length-take-le}
+use borrow.Author.Tests.{le-ltb, ltb-false, eq-eqb, ne-eqb}
+use lib.Dec.{ltb}
+use lib.ListN.{length, take, drop}
+use lib.Seq.{take-append-seam}
 use Rattle.field.specs.Pick.{pick}
 use Rattle.field.specs.Written.{written}
 use Rattle.framing.specs.Decode.{Outcome, quiet, message, error, refused, State, Step, step, after, outcomeOf, payloadOf}
 use Rattle.framing.specs.Feed.{Feed, fed, toldFed, isQuiet, taken, Formed}
 use Rattle.framing.specs.FeedLaws.{joined, fed-bound}
 use Rattle.framing.specs.Unstuff as unstuff
-use Rattle.framing.specs.FormedLaws.{step-formed, step-takes, fed-moves, fed-event, fed-formed}
+use Rattle.framing.specs.FormedLaws.{step-formed, step-takes, fed-event}
 use Rattle.framing.specs.declared.Fed.{Fed}
 use Rattle.field.specs.Puts.{Puts, puts-written}
 use Rattle.report.specs.Line.{lineOf}
 use Rattle.report.specs.LineLaws.{line-length}
-use Rattle.report.specs.Listing.{listing, Turn, toldListed, numbered, fedLine, listed}
+use Rattle.report.specs.Listing.{listing, Turn, toldListed, numbered, fedLine, refusalBy, refusalOf, listed}
 use Rattle.report.specs.declared.listing.Listed.{Listed}
 
 -- the number before a wrapped sum
 earlier : (x at used : ℕ) → x < 2 ^ 64 → 1 ≤ used → (x + 1) % 2 ^ 64 ≡ (at + used) % 2 ^ 64 → x ≡ (at + (used - 1)) % 2 ^ 64
 earlier x at used h k e = omega arith
 
+-- nothing is refused where the decoder is well formed and there is room for a line, and only there
+none-refused : (t u v : Bool) (count buf out : ℕ) → ltb 1024 count ≡ t → ltb buf 1024 ≡ u → ltb out 128 ≡ v
+    → pick {A = ℕ} t 16 (pick u 7 (pick v 7 0)) ≡ 0 → (count ≤ 1024) × (1024 ≤ buf) × (128 ≤ out)
+none-refused true u v count buf out p q r e = absurd (omega arith)
+none-refused false true v count buf out p q r e = absurd (omega arith)
+none-refused false false true count buf out p q r e = absurd (omega arith)
+none-refused false false false count buf out p q r e = (ltb-false 1024 count p, ltb-false buf 1024 q, ltb-false out 128 r)
+
+pub refusal-none : (count buf out : ℕ) → refusalBy count buf out ≡ 0 → (count ≤ 1024) × (1024 ≤ buf) × (128 ≤ out)
+refusal-none count buf out e = none-refused (ltb 1024 count) (ltb buf 1024) (ltb out 128) count buf out refl refl refl e
+
+pub refusal-zero : (s : State) (out : List ℕ) → Formed s → 128 ≤ length out → refusalOf s out ≡ 0
+refusal-zero s out f h = rw (le-ltb 1024 (s .count) (f .small), le-ltb (length (s .buffer)) 1024 (f .room), le-ltb (length out) 128 h)
+
 -- one call, case by case
 module _ (n at : ℕ) (s : State) (bytes out : List ℕ) where
-  pub listed-16 : 1024 < s .count → listed n at s bytes out ≡ record { next = s; n = n; at = at; used = 0; len = 0; number = 16; out = out }
+  pub listed-refused : (number : ℕ) → number ≡ refusalOf s out → (number ≡ 0 → ⊥)
+      → listed n at s bytes out ≡ record { next = s; n = n; at = at; used = 0; len = 0; number = number; out = out }
   unfolding listed
-  listed-16 h = rw (lt-ltb 1024 (s .count) h)
-
-  pub listed-7 : s .count ≤ 1024 → length (s .buffer) < 1024
-      → listed n at s bytes out ≡ record { next = s; n = n; at = at; used = 0; len = 0; number = 7; out = out }
-  unfolding listed
-  listed-7 k h = rw (le-ltb 1024 (s .count) k, lt-ltb (length (s .buffer)) 1024 h)
-
-  pub listed-short : Formed s → length out < 128
-      → listed n at s bytes out ≡ record { next = s; n = n; at = at; used = 0; len = 0; number = 7; out = out }
-  unfolding listed
-  listed-short f h = rw (le-ltb 1024 (s .count) (f .small), le-ltb (length (s .buffer)) 1024 (f .room), lt-ltb (length out) 128 h)
+  listed-refused number e h = rw (ne-eqb (refusalOf s out) 0 (λ z. h (e ∙ z)), e)
 
   pub listed-taken : Formed s → 128 ≤ length out → listed n at s bytes out
       ≡ record {
@@ -54,7 +60,7 @@ module _ (n at : ℕ) (s : State) (bytes out : List ℕ) where
         out = written (fedLine n at (fed s bytes)) out;
       }
   unfolding listed
-  listed-taken f h = rw (le-ltb 1024 (s .count) (f .small), le-ltb (length (s .buffer)) 1024 (f .room), le-ltb (length out) 128 h)
+  listed-taken f h = rw (eq-eqb (refusalOf s out) 0 (refusal-zero s out f h))
 
   -- no event: r and buf are what `push_bytes` left, w the next byte's offset
   pub listed-quiet : (r : Fed) (buf : List ℕ) {w : ℕ} → Formed s → 128 ≤ length out → toldFed r buf ≡ fed s bytes → outcomeOf (r .event) ≡ quiet
@@ -94,24 +100,6 @@ listedBack t =
 pub listed-told : (r : Listed) (buf out : List ℕ) → listedBack (toldListed r buf out) ≡ r
 unfolding listedBack
 listed-told r buf out = refl
-
--- what a loop over the rest of the input and of the output goes by: it moves, stays inside both, and the decoder stays well formed
-pub listed-rest : (r : Listed) (buf new : List ℕ) (n at : ℕ) (s : State) (bytes out : List ℕ) (i m : ℕ) → Formed s
-    → toldListed r buf new ≡ listed n at s (take (length bytes - i) (drop i bytes)) (take (length out - m) (drop m out))
-    → i < length bytes → m ≤ length out → 128 ≤ length out - m
-    → (1 ≤ r .used) × (i + r .used ≤ length bytes) × (m + r .len ≤ length out) × (r .place .decoder .count ≤ 1024)
-listed-rest r buf new n at s bytes out i m formed e h k l =
-    let rest = take (length bytes - i) (drop i bytes) in
-    let room = take (length out - m) (drop m out) in
-    let c : length rest ≡ length bytes - i = length-take-le (length bytes - i) (drop i bytes) (rw length-drop (omega arith)) in
-    let d : length room ≡ length out - m = length-take-le (length out - m) (drop m out) (rw length-drop (omega arith)) in
-    let g = e ∙ listed-taken n at s rest room formed (omega (arith, d)) in
-    let u : r .used ≡ fed s rest .used = ap (λ (t : Turn). t .used) g in
-    let v : r .len ≡ length (fedLine n at (fed s rest)) = ap (λ (t : Turn). t .len) g in
-    let f = fed s rest in
-    let w : length (fedLine n at f) ≤ 105 =
-    line-length n ((at + (f .used - 1)) % 2 ^ 64) (f .outcome) (payloadOf (f .outcome) (f .next .buffer)) in
-    (omega (arith, u, fed-moves s rest formed (omega (arith, c))), omega (arith, u, c, fed-bound s rest), omega (arith, v, w), omega (arith, ap (λ (t : Turn). t .next .count) g, fed-formed s rest formed .small))
 
 -- what was fed up to the first event: its line, and the listing of the rest
 abbrev pub turned : ℕ → ℕ → Feed → List ℕ → List ℕ

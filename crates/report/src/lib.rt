@@ -6,8 +6,7 @@ mod names;
 mod text;
 
 pub use line::LINE_ROOM;
-pub use line::Line;
-pub use line::event_line;
 pub use listing::Listed;
 pub use listing::Place;
 pub use listing::list_bytes;
+pub use listing::list_lines;

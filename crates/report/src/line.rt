@@ -1,10 +1,9 @@
 // A line of the listing for each event.
 ghost use Prim.Native.Nat.{_≤_};
-ghost use mathlib.Core.Path.{_≡_};
 ghost use lib.ListN.{length};
 ghost use Rattle.framing.specs.Decode.{outcomeOf};
 ghost use Rattle.field.specs.Puts.{Puts};
-ghost use Rattle.report.specs.Line.{headOf, messageLine, errorLine, lineOf, toldLine, lined};
+ghost use Rattle.report.specs.Line.{headOf, messageLine, errorLine, lineOf};
 use crate::names::put_bem;
 use crate::text::put_bytes;
 use crate::text::put_hex;
@@ -13,12 +12,6 @@ use framing::Event;
 
 // Room for any line.
 pub const LINE_ROOM: usize = 128;
-
-// What a line's writer answers: how many bytes the line has, or the number of the refusal.
-pub enum Line {
-    Written(usize),
-    Refused(u8),
-}
 
 // The event's number and its offset, with which each line begins.
 fn put_head(out: &mut [u8], n: u64, at: u64) -> usize
@@ -71,14 +64,4 @@ pub(crate) fn put_line(out: &mut [u8], n: u64, at: u64, event: Event, payload: &
         Event::TooLong => put_error(out, n, at, 5),
         Event::Refused(number) => put_error(out, n, at, number),
     }
-}
-
-// Writes the line of event n, whose last byte stands at the offset at, to the start of out. Refuses with 7 an out under 128 bytes.
-pub fn event_line(n: u64, at: u64, event: Event, payload: &[u8], out: &mut [u8]) -> Line
-    ensures { λ r. ⌜ toldLine r (now (out .exit)) ≡ lined n at (outcomeOf event) (now (payload .entry)) (now (out .entry)) ⌝ }
-{
-    if out.len() < LINE_ROOM {
-        return Line::Refused(7);
-    }
-    Line::Written(put_line(out, n, at, event, payload))
 }

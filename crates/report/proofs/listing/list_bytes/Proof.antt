@@ -1,18 +1,20 @@
 -- `report::listing::list_bytes` meets its contract. Assumes nothing.
+use Prim.Native.Nat.{_≤_}
 use native.Mathlib.Omega.{arith}
 use mathlib.Core.Bool.{false}
 use mathlib.Core.List.{[], _∷_}
 use mathlib.Core.Logic.{⊎-elim}
-use mathlib.Core.Path.{_≡_, refl, ap, sym}
+use mathlib.Core.Path.{_≡_, refl, ap, sym, _∙_}
 use borrow.Author.Needs.{needs}
 use types.Run.{OneOf}
 use denote.Enum.Declared.{tagOf}
+use lib.ListN.{length}
 use Rattle.framing.proofs.Event.{the-type}
 use Rattle.framing.specs.declared.Event.{Event}
 use Rattle.framing.specs.declared.Event.the-variants.{Quiet, Message, ShortMessage, BadChecksum, LengthMismatch, BadEscape, TooLong, Refused}
 use Rattle.framing.specs.Decode.{outcomeOf}
 use Rattle.framing.specs.Feed.{isQuiet}
-use Rattle.report.specs.ListingLaws.{listed-16, listed-7, listed-short, listed-quiet, listed-event, told-by}
+use Rattle.report.specs.ListingLaws.{refusal-none, listed-refused, listed-quiet, listed-event, told-by}
 use Rattle.report.proofs.listing.list_bytes.Statement.{statement}
 use Rattle.report.proofs.listing.list_bytes.Tie as tie
 
@@ -30,25 +32,23 @@ not-quiet (BadEscape b) h = refl
 not-quiet TooLong h = refl
 not-quiet (Refused number) h = refl
 
+-- nothing is refused
+passed : (e : tie.Else1)
+    → let a = e .before .before .before .before .before .before .args in
+    (a .place .decoder .count ≤ 1024) × (1024 ≤ length (a .buf .now)) × (128 ≤ length (a .out .now))
+passed e = refusal-none _ _ _ (sym (e .before .refusal .ensures) ∙ e .if1 .left)
+
+refusal-requires : tie.Need-refusal-requires
+refusal-requires c κs = search needs
+
 refused-requires : tie.Need-refused-requires
 refused-requires c κs = search needs
 
 returns : tie.Need-returns
-returns c = told-by (c .refused .ensures) (sym (listed-16 _ _ _ _ _ (c .before .if1 .taken)))
-
-refused-requires-2 : tie.Need-refused-requires-2
-refused-requires-2 c κs = search needs
-
-returns-2 : tie.Need-returns-2
-returns-2 c = told-by (c .refused2 .ensures) (sym (listed-7 _ _ _ _ _ (c .before .before .if1 .left) (c .before .if2 .taken)))
-
-refused-requires-3 : tie.Need-refused-requires-3
-refused-requires-3 c κs = search needs
-
-returns-3 : tie.Need-returns-3
-returns-3 c =
-    let e = c .before .before in
-    told-by (c .refused3 .ensures) (sym (listed-short _ _ _ _ _ (record { small = e .before .if1 .left; room = e .if2 .left }) (c .before .if3 .taken)))
+returns c =
+    let t = c .before in
+    let f = t .before in
+    told-by (c .refused .ensures) (sym (listed-refused _ _ _ _ _ (f .refusal .result) (f .refusal .ensures) (t .if1 .taken)))
 
 push-bytes-requires : tie.Need-push-bytes-requires
 push-bytes-requires c κs = search needs
@@ -65,14 +65,14 @@ answer-requires c κs = search needs
 same-length : tie.Need-same-length
 same-length c = search needs
 
-returns-4 : tie.Need-returns-4
-returns-4 c =
+returns-2 : tie.Need-returns-2
+returns-2 c =
     let e = c .before in
     let w = e .before .before in
     let p = w .before .before .before .before in
-    let o = p .before .before in
+    let v = passed (p .before .before) in
     told-by (c .answer .ensures)
-    (listed-quiet _ _ _ _ _ (p .push-bytes .result) _ (record { small = o .before .before .if1 .left; room = o .before .if2 .left }) (o .if3 .left) (p .push-bytes .ensures)
+    (listed-quiet _ _ _ _ _ (p .push-bytes .result) _ (record { small = v .0; room = v .1 }) (v .2) (p .push-bytes .ensures)
     (ap outcomeOf (e .enum-told .given .1)) (w .wrapping-add-u64 .ensures))
 
 wrapping-sub-u64-requires : tie.Need-wrapping-sub-u64-requires
@@ -82,7 +82,9 @@ payload-requires : tie.Need-payload-requires
 payload-requires c κs = search needs
 
 put-line-requires : tie.Need-put-line-requires
-put-line-requires c κs = search needs
+put-line-requires c κs =
+    let p = c .before .before .before .before .before .before .before .before .before in
+    passed (p .before .before) .2
 
 wrapping-add-u64-requires-2 : tie.Need-wrapping-add-u64-requires-2
 wrapping-add-u64-requires-2 c κs = search needs
@@ -96,8 +98,8 @@ same-length-2 c = search needs
 same-length-3 : tie.Need-same-length-3
 same-length-3 c = search needs
 
-returns-5 : tie.Need-returns-5
-returns-5 c =
+returns-3 : tie.Need-returns-3
+returns-3 c =
     let m = c .before in
     let l = m .before .before .before in
     let y = l .before in
@@ -105,9 +107,9 @@ returns-5 c =
     let k = b .before in
     let w = k .before in
     let p = w .before .before .before .before in
-    let o = p .before .before in
+    let v = passed (p .before .before) in
     told-by (c .answer2 .ensures)
-    (listed-event _ _ _ _ _ (p .push-bytes .result) _ (record { small = o .before .before .if1 .left; room = o .before .if2 .left }) (o .if3 .left) (p .push-bytes .ensures)
+    (listed-event _ _ _ _ _ (p .push-bytes .result) _ (record { small = v .0; room = v .1 }) (v .2) (p .push-bytes .ensures)
     (not-quiet (p .push-bytes .result .event) (k .match .keys2)) (w .wrapping-add-u64 .ensures)
     (b .wrapping-sub-u64 .ensures) (search needs) (y .payload .ensures) (l .put-line .ensures) (m .wrapping-add-u642 .ensures))
 
@@ -115,18 +117,15 @@ pub list-bytes-spec : {M : Type 1} → statement M
 list-bytes-spec =
     tie.close
     (tie.spec
+    refusal-requires
     refused-requires
     returns
-    refused-requires-2
-    returns-2
-    refused-requires-3
-    returns-3
     push-bytes-requires
     wrapping-add-u64-requires
     enum-told
     answer-requires
     same-length
-    returns-4
+    returns-2
     wrapping-sub-u64-requires
     payload-requires
     put-line-requires
@@ -134,4 +133,4 @@ list-bytes-spec =
     answer-requires-2
     same-length-2
     same-length-3
-    returns-5)
+    returns-3)
