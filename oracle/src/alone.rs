@@ -1,0 +1,39 @@
+//! The Rust side by itself: how much each generator asks, and what it is answered.
+use crate::blocks::Blocks;
+use crate::generate::{Kind, Part, fill};
+use crate::script::*;
+use crate::text;
+use std::collections::BTreeMap;
+use std::time::Instant;
+
+/// Runs a part and prints how often each op was answered with each number, and how often each phase was reached.
+pub fn alone(part: &Part, seed: u64, size: usize) {
+    let start = Instant::now();
+    let mut numbers: BTreeMap<(u8, u8), usize> = BTreeMap::new();
+    let mut phases = [0usize; 8];
+    let (mut cases, mut count) = (0, 0);
+    let batches = match part.kind {
+        Kind::Fixed(_) => vec![size],
+        Kind::Random(_) => (0..size).step_by(5_000).map(|i| 5_000.min(size - i)).collect(),
+    };
+    for (i, size) in batches.into_iter().enumerate() {
+        let mut blocks = Blocks::default();
+        fill(part, seed.wrapping_add(i as u64), size, &mut blocks);
+        cases += blocks.cases;
+        count += blocks.calls;
+        for (op, number, body) in answers(&blocks.transcript) {
+            *numbers.entry((op, number)).or_default() += 1;
+            if number == 0 && (op == MESSAGE || op == TICK) {
+                phases[usize::from(body[body.len() - 16])] += 1;
+            }
+        }
+    }
+    let seconds = start.elapsed().as_secs_f64();
+    println!("{}: {cases} cases, {count} calls, {seconds:.1} s", part.name);
+    for ((op, number), n) in numbers {
+        println!("  {op:02x} {:12} no={number:3} {n}", text::name(op));
+    }
+    if phases.iter().sum::<usize>() > 0 {
+        println!("  phase after a message or tick: {phases:?}");
+    }
+}

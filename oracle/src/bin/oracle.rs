@@ -1,0 +1,92 @@
+//! oracle compare BIN quick|full [SEED]    the port's programs in the folder BIN against canboat's Rust
+//! oracle parts                            the generators: program, name, sizes
+//! oracle alone PART SEED SIZE             the Rust by itself: how often each number was answered
+//! oracle script PROGRAM quick|full SEED   > script
+//! oracle run                              < script > transcript
+//! oracle show FILE                        the calls of a script, with the Rust's answers, as text
+//! oracle sample PROGRAM SEED DIR          DIR/stdin and DIR/stdout, for the program of that name
+//! oracle list                             < bytes    the listing program's lines
+use oracle::blocks::{BLOCK, Blocks, run};
+use oracle::generate::{PARTS, Part, fill};
+use oracle::script::{answers, calls};
+use oracle::{alone, compare, run as side, text};
+use std::io::{Read, Write};
+use std::path::Path;
+
+fn part(name: &str) -> &'static Part {
+    let found = PARTS.iter().find(|p| p.name == name);
+    found.unwrap_or_else(|| panic!("no part {name}"))
+}
+
+fn number<T: std::str::FromStr>(text: &str) -> T {
+    text.parse().unwrap_or_else(|_| panic!("no number: {text}"))
+}
+
+fn input() -> Vec<u8> {
+    let mut all = Vec::new();
+    std::io::stdin().read_to_end(&mut all).unwrap();
+    all
+}
+
+/// All parts of a program in one script, each with the size that `of` takes.
+fn script(program: &str, seed: u64, of: fn(&Part) -> usize) -> Blocks {
+    let mut blocks = Blocks::default();
+    for part in PARTS.iter().filter(|p| p.program == program) {
+        fill(part, seed, of(part), &mut blocks);
+    }
+    blocks
+}
+
+fn show(script: &[u8]) -> String {
+    let told = run(script);
+    let mut told = answers(&told);
+    let mut lines = String::new();
+    for (i, block) in script.chunks(BLOCK).enumerate() {
+        for (at, op, body) in calls(block) {
+            let (call, answer) = (text::call(op, body), text::answer(told.next()));
+            lines += &format!("{i}:{at} {call} -> {answer}\n");
+        }
+    }
+    lines
+}
+
+fn main() {
+    let words: Vec<String> = std::env::args().skip(1).collect();
+    let words: Vec<&str> = words.iter().map(String::as_str).collect();
+    let out: Vec<u8> = match words[..] {
+        ["compare", bin, depth @ ("quick" | "full"), ref seed @ ..] => {
+            let seed = seed.first().map_or(1, |s| number(s));
+            if let Err(why) = compare::compare(Path::new(bin), depth == "full", seed) {
+                println!("DIFFERENT: {why}");
+                std::process::exit(1);
+            }
+            Vec::new()
+        }
+        ["parts"] => {
+            let line = |p: &Part| format!("{:15} {:15} quick {} full {}\n", p.program, p.name, p.quick, p.full);
+            PARTS.iter().map(line).collect::<String>().into_bytes()
+        }
+        ["alone", name, seed, size] => {
+            alone::alone(part(name), number(seed), number(size));
+            Vec::new()
+        }
+        ["script", program, "quick", seed] => script(program, number(seed), |p| p.quick).script,
+        ["script", program, "full", seed] => script(program, number(seed), |p| p.full).script,
+        ["run"] => run(&input()),
+        ["show", file] => show(&std::fs::read(file).unwrap()).into_bytes(),
+        ["sample", program, seed, dir] => {
+            let blocks = script(program, number(seed), |p| p.sample);
+            std::fs::write(format!("{dir}/stdin"), &blocks.script).unwrap();
+            std::fs::write(format!("{dir}/stdout"), &blocks.transcript).unwrap();
+            println!("{} cases, {} calls", blocks.cases, blocks.calls);
+            Vec::new()
+        }
+        ["list"] => side::listing(&input()).into_bytes(),
+        _ => {
+            eprintln!("see the head of src/bin/oracle.rs");
+            std::process::exit(2);
+        }
+    };
+    // a reader that has seen enough, as `head`, is no error
+    drop(std::io::stdout().write_all(&out));
+}

@@ -1,0 +1,205 @@
+//! The session's fixed cases.
+use super::{Each, case, hex, u16s};
+use crate::generate::{LIST, Stored, WANTED};
+use crate::run::LAST_TICK;
+use crate::script::*;
+
+fn at(now: u64, room: usize, payload: &[u8]) -> Vec<u8> {
+    [&now.to_le_bytes()[..], &u16s(&[room]), payload].concat()
+}
+
+fn message(now: u64, text: &str) -> (u8, Vec<u8>) {
+    (MESSAGE, at(now, 512, &hex(text)))
+}
+
+fn tick(now: u64) -> (u8, Vec<u8>) {
+    (TICK, at(now, 512, &[]))
+}
+
+fn begin(lists: [&[u32]; 4]) -> (u8, Vec<u8>) {
+    let mut body = u16s(&lists.map(<[u32]>::len));
+    for pgn in lists.concat() {
+        put_u32(&mut body, pgn);
+    }
+    (BEGIN, body)
+}
+
+/// The calls, and then a look at everything.
+fn run(calls: Vec<(u8, Vec<u8>)>, each: Each) {
+    let mut all: Vec<(u8, &[u8])> = calls.iter().map(|(op, body)| (*op, &body[..])).collect();
+    all.extend([(DUMP, &[][..]), (PARTS, &[][..])]);
+    each(&case(&all));
+}
+
+const MODE_REPLY: &str = "11 01 0E 00 01 02 03 04 00 00 00 00 02 00";
+/// Format 1: PGNs 126992 and 127245; then what ends the list.
+const LISTED: &str = "49 01 0E 00 01 02 03 04 00 00 00 00 02 10 F0 01 00 0D F1 01 00";
+const CLOSING: &str = "49 04 0E 00 01 02 03 04 00 00 00 00 01 07 EF 01 00";
+const SUPPORTED: &str = "40 01 0E 00 01 02 03 04 00 00 00 00 00 00 11 00 00 34 12 02 00 02 00 10 F0 01 01 0D F1 01";
+const ENABLED: &str = "4F 01 0E 00 01 02 03 04 00 00 00 00 00 02 11 00 00 01 00 01 01 06 E8 03";
+const MAPS: &str = "4F 02 0E 00 01 02 03 04 00 00 00 00 00 03 11 00 00 02 01 80 01 02";
+
+fn enabled(error: &str) -> String {
+    format!("47 01 0E 00 01 02 03 04 {error} 07 F0 01 00 01 FE FF FF FF FE FF FF FF 06")
+}
+
+const DONE_WELL: &str = "00 00 00 00";
+const ALREADY: &str = "1C FC FF FF";
+const REFUSED: &str = "1B FC FF FF";
+
+/// A session up to its first read, firmware told or not.
+fn reading(lists: [&[u32]; 4], firmware: Option<u16>) -> Vec<(u8, Vec<u8>)> {
+    let mut calls = vec![begin(lists)];
+    calls.extend(firmware.map(|f| (FIRMWARE, f.to_le_bytes().to_vec())));
+    calls.extend([message(1_000, MODE_REPLY), tick(2_999), tick(3_000)]);
+    calls
+}
+
+fn with(mut calls: Vec<(u8, Vec<u8>)>, more: Vec<(u8, Vec<u8>)>, each: Each) {
+    calls.extend(more);
+    run(calls, each);
+}
+
+/// Module 6, told as document 01 tells it.
+fn stories(each: Each) {
+    let wanted: [&[u32]; 4] = [&[126_983, 126_992, 126_983, 65_280], &[], &[], &[]];
+    let answers = |errors: [&str; 3]| -> Vec<_> {
+        let say = |(i, e): (usize, &str)| message(3_100 + i as u64, &enabled(e));
+        errors.into_iter().enumerate().map(say).collect()
+    };
+    let save = vec![message(3_200, "01"), message(3_300, "4B")];
+    // Format 1: repeats are asked for twice; nothing is read from the closing message; saved when activate is answered
+    for errors in [[DONE_WELL; 3], [ALREADY; 3], [REFUSED; 3], [DONE_WELL, ALREADY, REFUSED]] {
+        let mut more = vec![message(3_001, LISTED), message(3_002, CLOSING)];
+        more.extend(answers(errors));
+        more.extend(save.clone());
+        more.extend([(LACKS, 126_983u32.to_le_bytes().to_vec()), (RESTART, vec![])]);
+        with(reading(wanted, None), more, each);
+    }
+    // Format 2, its parts in the order that an NGT-1 with firmware 2.690 has
+    let mut more = vec![message(3_001, SUPPORTED), message(3_002, MAPS), message(3_003, ENABLED)];
+    more.extend(answers([DONE_WELL; 3]));
+    more.extend(save);
+    with(reading(wanted, Some(2690)), more.clone(), each);
+    more[1] = message(3_002, "4F 01 0E 00 01 02 03 04 FF FF FF FF");
+    with(reading(wanted, Some(2500)), more, each);
+    // silence: three attempts in Format 2, three in Format 1, done
+    for firmware in [None, Some(2499), Some(2500)] {
+        let ticks = (0..8).map(|i| tick(13_000 + 10_000 * i)).collect();
+        with(reading(wanted, firmware), ticks, each);
+    }
+    // a timeout in each later phase, one tick before and at the end of the wait
+    for answered in 0..3 {
+        let mut more = vec![message(3_001, CLOSING)];
+        more.extend([message(3_002, &enabled(DONE_WELL)), message(3_003, "01")].into_iter().take(answered));
+        more.extend([tick(3_001 + answered as u64 + 9_999), tick(3_001 + answered as u64 + 10_000)]);
+        with(reading([&[7], &[], &[], &[]], None), more, each);
+    }
+    // old lists: present ones are known and not asked for, refused ones not asked for, saved ones asked for and not saved again
+    let old: [&[u32]; 4] = [&[5, 6, 5, 8, 9], &[6, 6], &[9, 9, 8], &[8, 1]];
+    let more = vec![
+        message(3_001, "49 04"),
+        message(3_002, &enabled(DONE_WELL)),
+        message(3_003, &enabled(DONE_WELL)),
+        message(3_004, &enabled(DONE_WELL)),
+        message(3_005, "01"),
+        message(3_006, "4B 09 09"),
+    ];
+    with(reading(old, None), more, each);
+    // the clock goes back an hour after the mode: the wait of 2,000 ms lasts that much longer
+    let hour = 3_600_000;
+    let calls = vec![
+        begin([&[126_983], &[], &[], &[]]),
+        message(hour, MODE_REPLY),
+        tick(0),
+        tick(2_000),
+        tick(hour + 1_999),
+        tick(hour + 2_000),
+        message(0, "49 04"),
+        tick(9_999),
+        tick(10_000),
+    ];
+    run(calls, each);
+    // firmware told at odd times; abandon, and restart after it
+    let odd = vec![
+        (FIRMWARE, 100u16.to_le_bytes().to_vec()),
+        tick(13_000),
+        (ABANDON, vec![]),
+        (LACKS, vec![7, 0, 0, 0]),
+        message(13_001, MODE_REPLY),
+        (RESTART, vec![]),
+        message(13_002, MODE_REPLY),
+        tick(15_002),
+    ];
+    with(reading([&[7], &[], &[], &[]], Some(2500)), odd, each);
+}
+
+/// 16, 13, 6, 7 and 14 of a message, 16, 13 and 7 of a tick: each set of them at once, with the lent bytes.
+fn refused_calls(each: Each) {
+    for set in 0..32 {
+        let holds = |i: usize| set >> i & 1 == 1;
+        let mut lengths = [0; 9];
+        lengths[WANTED] = if holds(0) { 65 } else { 1 };
+        lengths[LIST] = 1024;
+        let state = Stored::sized(2, lengths).body();
+        let now = if holds(1) { LAST_TICK + 1 } else { LAST_TICK };
+        let mut payload = hex(if holds(4) { LISTED } else { CLOSING });
+        payload.resize(if holds(2) { 256 } else { 255 }, 0);
+        let body = at(now, if holds(3) { 31 } else { 32 }, &payload);
+        for op in [MESSAGE, TICK] {
+            let lent = [&[op], &body[..]].concat();
+            each(&case(&[(SET_RAW, &state), (op, &body), (DUMP, &[])]));
+            each(&case(&[(SET_RAW, &state), (LENT_S, &lent), (DUMP, &[])]));
+        }
+    }
+    // 14 counts what would be added, and only where it would be
+    for (have, count, told) in
+        [(1023, 1, 1), (1023, 2, 2), (1023, 2, 1), (1024, 0, 3), (1024, 1, 0), (964, 60, 60), (965, 60, 60)]
+    {
+        let mut lengths = [0; 9];
+        lengths[LIST] = have;
+        for phase in [2, 3] {
+            let mut payload = hex("49 01 0E 00 01 02 03 04 00 00 00 00");
+            payload.push(count);
+            payload.extend_from_slice(&vec![3; 4 * told]);
+            let state = Stored::sized(phase, lengths).body();
+            each(&case(&[(SET, &state), (MESSAGE, &at(0, 32, &payload)), (DUMP, &[])]));
+        }
+    }
+    // begin: 11 and 12, each list; restart: 16 and 12
+    for wanted in [64, 65] {
+        for (saved, present, refused) in [(192, 192, 192), (193, 0, 0), (0, 193, 0), (0, 0, 193)] {
+            let body = u16s(&[wanted, saved, present, refused]);
+            each(&case(&[(BEGIN, &body), (TICK, &at(0, 32, &[]))]));
+            let stored = Stored::sized(7, [wanted, saved, present, refused, 0, 0, 0, 0, 0]).body();
+            each(&case(&[(SET_RAW, &stored), (RESTART, &[]), (DUMP, &[])]));
+        }
+    }
+    // no session
+    for op in [RESTART, MESSAGE, TICK, FIRMWARE, LACKS, ABANDON, DUMP, PARTS, LENT_S] {
+        let none = (BEGIN, &u16s(&[65, 0, 0, 0])[..]);
+        each(&case(&[none, (op, &[])]));
+    }
+}
+
+/// Known lists that a third attempt of Format 1 ends with, and attempt numbers that no session has.
+fn odd_states(each: Each) {
+    for attempt in [0, 1, 2, 3, 4, 255] {
+        for phase in [2, 3] {
+            for known_kind in [0, 1, 2] {
+                let mut state = Stored::sized(phase, [1, 1, 1, 1, 0, 0, 2, 3, 2]);
+                (state.attempt, state.known_kind) = (attempt, known_kind);
+                let mut lent = vec![TICK];
+                lent.extend_from_slice(&at(5_000, 32, &[]));
+                let set = state.body();
+                each(&case(&[(SET, &set), (TICK, &at(4_999, 32, &[])), (LENT_S, &lent), (DUMP, &[])]));
+            }
+        }
+    }
+}
+
+pub fn session(_: usize, each: Each) {
+    stories(each);
+    refused_calls(each);
+    odd_states(each);
+}

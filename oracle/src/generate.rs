@@ -1,0 +1,73 @@
+//! Where scripts come from. A part is a kind of case for one program: all of a fixed set, or as many as asked for from a seed.
+mod encode;
+mod framing;
+mod gateway;
+mod orders;
+mod records;
+mod rng;
+mod session;
+mod states;
+
+pub use framing::streams;
+pub use rng::Rng;
+pub use states::{LIST, Stored, WANTED};
+
+use crate::blocks::Blocks;
+use crate::edges;
+use Kind::{Fixed, Random};
+
+pub enum Kind {
+    /// All cases, for a size.
+    Fixed(fn(usize, &mut dyn FnMut(&[u8]))),
+    /// One case.
+    Random(fn(&mut Rng, &mut Vec<u8>)),
+}
+
+pub struct Part {
+    pub program: &'static str,
+    pub name: &'static str,
+    pub kind: Kind,
+    /// Sizes or numbers of cases: quick, full, and in the stored sample.
+    pub quick: usize,
+    pub full: usize,
+    pub sample: usize,
+}
+
+const fn part(program: &'static str, name: &'static str, kind: Kind, [quick, full, sample]: [usize; 3]) -> Part {
+    Part { program, name, kind, quick, full, sample }
+}
+
+/// In each program the edges come first.
+pub const PARTS: &[Part] = &[
+    part("replay_framing", "framing-edges", Fixed(edges::framing), [0, 0, 0]),
+    part("replay_framing", "strings", Fixed(framing::strings), [7, 8, 3]),
+    part("replay_framing", "steps", Fixed(framing::steps), [1, 1, 0]),
+    part("replay_framing", "streams", Random(framing::case), [20_000, 1_000_000, 150]),
+    part("replay_framing", "messages", Random(encode::message), [30_000, 1_000_000, 80]),
+    part("replay_encode", "encode-edges", Fixed(edges::encode), [0, 0, 0]),
+    part("replay_encode", "encoders", Random(encode::case), [30_000, 1_000_000, 200]),
+    part("replay_records", "records-edges", Fixed(edges::records), [0, 0, 0]),
+    part("replay_records", "records", Random(records::record), [30_000, 1_000_000, 150]),
+    part("replay_records", "replies", Random(records::reply), [30_000, 1_000_000, 150]),
+    part("replay_records", "products", Random(records::product), [30_000, 1_000_000, 100]),
+    part("replay_session", "session-edges", Fixed(edges::session), [0, 0, 0]),
+    part("replay_session", "bounds", Fixed(states::bounds), [0, 0, 0]),
+    part("replay_session", "orders", Fixed(orders::orders), [2, 3, 1]),
+    part("replay_session", "sessions", Random(session::case), [10_000, 500_000, 40]),
+    part("replay_session", "states", Random(states::case), [20_000, 1_000_000, 60]),
+];
+
+/// The cases of a part: a size or a number of them.
+pub fn fill(part: &Part, seed: u64, size: usize, blocks: &mut Blocks) {
+    match part.kind {
+        Fixed(all) => all(size, &mut |case| blocks.add(case)),
+        Random(one) => {
+            let (mut rng, mut case) = (Rng(seed), Vec::new());
+            for _ in 0..size {
+                case.clear();
+                one(&mut rng, &mut case);
+                blocks.add(&case);
+            }
+        }
+    }
+}

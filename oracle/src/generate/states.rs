@@ -1,0 +1,233 @@
+//! Whole stored sessions, well formed and not, reachable and not.
+use super::gateway::{enabled_part, listed, pgn, pgns, proprietary_part, supported_part};
+use super::records::reply_of;
+use super::rng::Rng;
+use super::session::at;
+use crate::run::LAST_TICK;
+use crate::script::*;
+
+/// Places among the nine lists of a stored state.
+pub const WANTED: usize = 0;
+pub const SAVED: usize = 1;
+pub const PRESENT: usize = 2;
+pub const REFUSED: usize = 3;
+pub const OWED: usize = 4;
+pub const FRESH: usize = 5;
+pub const LIST: usize = 6;
+pub const KNOWN: usize = 7;
+
+/// In that order; the last is proprietary's.
+const CAPACITIES: [usize; 9] = [64, 256, 256, 256, 64, 64, 1024, 1344, 512];
+
+#[derive(Clone, Default)]
+pub struct Stored {
+    pub phase: u8,
+    pub due: u64,
+    pub attempt: u8,
+    pub firmware: Option<u16>,
+    /// 0 none, 1 partial, 2 whole
+    pub known_kind: u8,
+    pub lists: [Vec<u32>; 9],
+    pub flags: u8,
+    pub supported: Vec<Option<(u8, u32)>>,
+    pub enabled: Vec<Option<u8>>,
+}
+
+impl Stored {
+    /// A state of this phase whose lists have these lengths, with PGNs all different.
+    pub fn sized(phase: u8, lengths: [usize; 9]) -> Stored {
+        let list = |i: usize| (0..lengths[i] as u32).map(|k| 10_000 * i as u32 + k).collect();
+        Stored { phase, due: 5_000, attempt: 1, known_kind: 2, lists: std::array::from_fn(list), ..Stored::default() }
+    }
+
+    pub fn body(&self) -> Vec<u8> {
+        let mut body = vec![self.phase];
+        body.extend_from_slice(&self.due.to_le_bytes());
+        body.extend_from_slice(&[self.attempt, self.firmware.is_some().into()]);
+        put_u16(&mut body, self.firmware.unwrap_or(0).into());
+        body.push(self.known_kind);
+        for list in &self.lists {
+            put_list(&mut body, list);
+        }
+        body.extend_from_slice(&[self.flags, self.supported.len() as u8]);
+        for place in &self.supported {
+            let (index, pgn) = place.unwrap_or((7, 7));
+            body.extend_from_slice(&[place.is_some().into(), index]);
+            put_u32(&mut body, pgn);
+        }
+        body.push(self.enabled.len() as u8);
+        for place in &self.enabled {
+            body.extend_from_slice(&[place.is_some().into(), place.unwrap_or(7)]);
+        }
+        body
+    }
+}
+
+/// Every call on the state that SET_RAW puts in, each from that state anew, then SET.
+pub fn every_call(state: &Stored, each: &mut dyn FnMut(&[u8])) {
+    let body = state.body();
+    let enable = reply_of(0x47, 1, 0, &[]);
+    for (op, arguments) in [
+        (RESTART, vec![]),
+        (MESSAGE, at(5_000, 32, &enable)),
+        (MESSAGE, at(5_000, 32, &[1])),
+        (MESSAGE, at(5_000, 32, &[0x4b])),
+        (TICK, at(5_000, 32, &[])),
+        (FIRMWARE, vec![0xc4, 9]),
+        (LACKS, vec![0, 0, 0, 0]),
+        (ABANDON, vec![]),
+    ] {
+        let mut case = Vec::new();
+        call(&mut case, SET_RAW, &body);
+        call(&mut case, op, &arguments);
+        call(&mut case, DUMP, &[]);
+        each(&case);
+    }
+    let mut case = Vec::new();
+    call(&mut case, SET, &body);
+    call(&mut case, TICK, &at(0, 32, &[]));
+    each(&case);
+}
+
+/// Every bound of "State is not well formed when", at the bound and one above, in every phase.
+pub fn bounds(_: usize, each: &mut dyn FnMut(&[u8])) {
+    for phase in 0..8 {
+        // as small as the phase allows
+        let mut least = [0; 9];
+        least[OWED] = usize::from(phase == 4);
+        for (list, capacity) in CAPACITIES.into_iter().enumerate() {
+            for above in [0, 1] {
+                let mut lengths = least;
+                lengths[list] = capacity + above;
+                every_call(&Stored::sized(phase, lengths), each);
+            }
+        }
+        for list in [SAVED, PRESENT, REFUSED] {
+            for len in [192, 193] {
+                let mut lengths = least;
+                lengths[list] = len;
+                every_call(&Stored::sized(phase, lengths), each);
+            }
+        }
+        // the sums: these lists together, at their bound and one above
+        for (lists, bound) in [
+            (&[FRESH, OWED][..], 64),
+            (&[KNOWN, OWED], 1344),
+            (&[PRESENT, OWED], 256),
+            (&[REFUSED, OWED], 256),
+            (&[SAVED, FRESH, OWED], 256),
+            (&[SAVED, FRESH], 256),
+        ] {
+            for above in [0, 1] {
+                let mut lengths = least;
+                let mut left = bound + above;
+                for &list in &lists[1..] {
+                    lengths[list] = 20;
+                    left -= 20;
+                }
+                lengths[lists[0]] = left.min(CAPACITIES[lists[0]]);
+                every_call(&Stored::sized(phase, lengths), each);
+            }
+        }
+        let mut nothing_owed = Stored::sized(phase, [0; 9]);
+        every_call(&nothing_owed, each);
+        // a known list that is said not to be there
+        nothing_owed.known_kind = 0;
+        nothing_owed.lists[KNOWN] = vec![0, 5];
+        nothing_owed.lists[OWED] = vec![0; 5];
+        every_call(&nothing_owed, each);
+    }
+}
+
+/// Lengths that are mostly small and sometimes around a bound.
+fn random_lists(r: &mut Rng) -> [Vec<u32>; 9] {
+    let big = r.chance(10);
+    std::array::from_fn(|i| {
+        let capacity = CAPACITIES[i];
+        let len = match r.below(4) {
+            0 if big => r.around(&[capacity, capacity.min(192), capacity.min(192)]),
+            1 if big => r.below(capacity + 1),
+            _ => r.below(6),
+        };
+        (0..len as u32).map(|k| if r.chance(70) { pgn(r) } else { 5000 + k }).collect()
+    })
+}
+
+fn random_state(r: &mut Rng, now: u64) -> Stored {
+    let sizes = [0, 1, 2, 3, 3, 255];
+    let places = |r: &mut Rng| {
+        let filled = r.pick(&[50, 90, 100]);
+        let n = r.pick(&sizes);
+        (0..n).map(|_| r.chance(filled).then_some((r.below(6) as u8, pgn(r) & 0xFF_FFFF))).collect()
+    };
+    let supported: Vec<_> = places(r);
+    let enabled: Vec<_> = places(r);
+    Stored {
+        phase: r.below(8) as u8,
+        due: now + r.below(12_000) as u64,
+        attempt: r.pick(&[0, 1, 2, 3, 3, 4, 255]),
+        firmware: r.chance(50).then(|| r.pick(&[0, 2499, 2500, 65_535])),
+        known_kind: r.below(3) as u8,
+        lists: random_lists(r),
+        flags: r.below(8) as u8,
+        supported,
+        enabled: enabled.into_iter().map(|p| p.map(|(index, _)| index)).collect(),
+    }
+}
+
+/// A message that some phase takes.
+fn taken(r: &mut Rng) -> Vec<u8> {
+    let (size, first, count) = (r.pick(&[0, 1, 2, 3, 255]), r.below(4) as u8, r.below(5) as u8);
+    match r.below(8) {
+        0 => {
+            let entries: Vec<_> = (0..count).map(|i| (i, pgn(r) & 0xFF_FFFF)).collect();
+            reply_of(0x40, 1, 0, &supported_part(size, first, count, &entries))
+        }
+        1 => reply_of(0x4f, 1, 0, &enabled_part(size, first, count, &r.bytes(4))),
+        2 => {
+            let maps = [r.below(34), r.below(34)].map(|n| r.bytes(n));
+            reply_of(0x4f, 2, 0, &proprietary_part([&maps[0], &maps[1]]))
+        }
+        3 | 4 => reply_of(0x47, r.pick(&[1, 1, 1, 2]), r.pick(&[0, -996, -1]), &[]),
+        5 => vec![r.pick(&[0x01, 0x4b, 0x47, 0x49, 0x11])],
+        6 => reply_of(r.pick(&[0x40, 0x4f, 0x11]), 1, r.pick(&[0, -1]), &[2, 0]),
+        _ => {
+            let list = pgns(r, 60);
+            reply_of(0x49, r.pick(&[1, 1, 4]), 0, &listed(list.len() as u8, &list))
+        }
+    }
+}
+
+/// Any stored state, then a few calls on it.
+pub fn case(r: &mut Rng, case: &mut Vec<u8>) {
+    let now = r.pick(&[0, 5_000, 1 << 40, LAST_TICK - 20_000]);
+    let state = random_state(r, now);
+    call(case, r.pick(&[SET, SET, SET_RAW]), &state.body());
+    for _ in 0..1 + r.below(8) {
+        let time = match r.below(4) {
+            0 => now.saturating_sub(r.below(20_000) as u64),
+            1 => now + 12_000,
+            _ => now + r.below(10_000) as u64,
+        };
+        let room = if r.chance(95) { 32 } else { 31 };
+        match r.below(20) {
+            0..=3 => call(case, TICK, &at(time, room, &[])),
+            4 => call(case, LACKS, &pgn(r).to_le_bytes()),
+            5 => call(case, RESTART, &[]),
+            6 => call(case, PARTS, &[]),
+            7 => call(case, FIRMWARE, &r.pick(&[2499u16, 2500]).to_le_bytes()),
+            8 if r.chance(20) => call(case, ABANDON, &[]),
+            9 => {
+                let payload = taken(r);
+                let op = r.pick(&[MESSAGE, TICK]);
+                call(case, LENT_S, &[&[op], &at(time, room, &payload)[..]].concat());
+            }
+            _ => {
+                let payload = taken(r);
+                call(case, MESSAGE, &at(time, room, &payload));
+            }
+        }
+    }
+    call(case, DUMP, &[]);
+    call(case, PARTS, &[]);
+}
