@@ -1,6 +1,6 @@
 //! The port's programs against canboat's Rust.
 use crate::blocks::{BLOCK, Blocks, run};
-use crate::generate::{Kind, PARTS, Part, Rng, fill, streams};
+use crate::generate::{PARTS, Part, Rng, batches, fill, streams};
 use crate::run::listing;
 use crate::script::{answers, call, calls};
 use crate::text;
@@ -26,19 +26,6 @@ fn output(program: &Path, input: &[u8]) -> Vec<u8> {
     });
     child.wait().unwrap();
     told
-}
-
-/// How many cases go to the program at once.
-const BATCH: usize = 5_000;
-
-/// The part's batches: seed and size of each.
-fn batches(part: &Part, seed: u64, size: usize) -> Vec<(u64, usize)> {
-    match part.kind {
-        Kind::Fixed(_) => vec![(seed, size)],
-        Kind::Random(_) => (0..size.div_ceil(BATCH))
-            .map(|i| (seed.wrapping_mul(1_000_003).wrapping_add(i as u64), BATCH.min(size - i * BATCH)))
-            .collect(),
-    }
 }
 
 /// Compares a part; the Rust's side of a batch is made while the program runs on the one before. Prints what was compared.

@@ -134,37 +134,45 @@ fn stories(each: Each) {
     with(reading([&[7], &[], &[], &[]], Some(2500)), odd, each);
 }
 
-/// 16, 13, 6, 7 and 14 of a message, 16, 13 and 7 of a tick: each set of them at once, with the lent bytes.
+/// 16, 13, 6, 7 and 14 of a message, 16, 13 and 7 of a tick: each set of them at once, with the lent bytes; then a look.
 fn refused_calls(each: Each) {
     for set in 0..32 {
         let holds = |i: usize| set >> i & 1 == 1;
         let mut lengths = [0; 9];
         lengths[WANTED] = if holds(0) { 65 } else { 1 };
-        lengths[LIST] = 1024;
-        let state = Stored::sized(2, lengths).body();
+        lengths[LIST] = if holds(4) { 1024 } else { 2 };
         let now = if holds(1) { LAST_TICK + 1 } else { LAST_TICK };
-        let mut payload = hex(if holds(4) { LISTED } else { CLOSING });
+        let mut payload = hex(LISTED);
         payload.resize(if holds(2) { 256 } else { 255 }, 0);
         let body = at(now, if holds(3) { 31 } else { 32 }, &payload);
-        for op in [MESSAGE, TICK] {
-            let lent = [&[op], &body[..]].concat();
-            each(&case(&[(SET_RAW, &state), (op, &body), (DUMP, &[])]));
-            each(&case(&[(SET_RAW, &state), (LENT_S, &lent), (DUMP, &[])]));
-        }
+        let lent = |op: u8| [&[op], &body[..]].concat();
+        each(&case(&[
+            (SET_RAW, &Stored::sized(2, lengths).body()),
+            (MESSAGE, &body),
+            (LENT_S, &lent(MESSAGE)),
+            (TICK, &body),
+            (LENT_S, &lent(TICK)),
+            (TICK, &at(0, 32, &[])),
+        ]));
     }
-    // 14 counts what would be added, and only where it would be
-    for (have, count, told) in
-        [(1023, 1, 1), (1023, 2, 2), (1023, 2, 1), (1024, 0, 3), (1024, 1, 0), (964, 60, 60), (965, 60, 60)]
-    {
+    // 14 counts what would be added, and only where it would be: in phase 3 the list is not in use
+    for (phase, have, count, told) in [
+        (2, 1023, 1, 1),
+        (2, 1023, 2, 2),
+        (2, 1023, 2, 1),
+        (2, 1024, 0, 3),
+        (2, 1024, 1, 0),
+        (2, 964, 60, 60),
+        (2, 965, 60, 60),
+        (3, 1024, 1, 1),
+    ] {
         let mut lengths = [0; 9];
         lengths[LIST] = have;
-        for phase in [2, 3] {
-            let mut payload = hex("49 01 0E 00 01 02 03 04 00 00 00 00");
-            payload.push(count);
-            payload.extend_from_slice(&vec![3; 4 * told]);
-            let state = Stored::sized(phase, lengths).body();
-            each(&case(&[(SET, &state), (MESSAGE, &at(0, 32, &payload)), (DUMP, &[])]));
-        }
+        let mut payload = hex("49 01 0E 00 01 02 03 04 00 00 00 00");
+        payload.push(count);
+        payload.extend_from_slice(&vec![3; 4 * told]);
+        let state = Stored::sized(phase, lengths).body();
+        each(&case(&[(SET, &state), (MESSAGE, &at(0, 32, &payload)), (TICK, &at(0, 32, &[]))]));
     }
     // begin: 11 and 12, each list; restart: 16 and 12
     for wanted in [64, 65] {

@@ -41,6 +41,7 @@ impl Play<'_> {
 /// The clock's next reading.
 fn later(r: &mut Rng, now: u64, due: u64, dawdles: bool) -> u64 {
     const HOUR: u64 = 3_600_000;
+    let due = if due == 0 { now } else { due };
     match r.below(if dawdles { 8 } else { 20 }) {
         0 | 1 => due.saturating_sub(1),
         2 | 3 => due,

@@ -89,53 +89,69 @@ pub fn every_call(state: &Stored, each: &mut dyn FnMut(&[u8])) {
     each(&case);
 }
 
-/// Every bound of "State is not well formed when", at the bound and one above, in every phase.
-pub fn bounds(_: usize, each: &mut dyn FnMut(&[u8])) {
+/// Every bound of "State is not well formed when", at the bound and one above, in every phase. Size 0: enabling's sums, one call.
+pub fn bounds(size: usize, each: &mut dyn FnMut(&[u8])) {
+    if size == 0 {
+        return sums(4, &mut |state| {
+            let mut case = Vec::new();
+            call(&mut case, SET_RAW, &state.body());
+            call(&mut case, MESSAGE, &at(5_000, 32, &reply_of(0x47, 1, 0, &[])));
+            each(&case);
+        });
+    }
     for phase in 0..8 {
-        // as small as the phase allows
-        let mut least = [0; 9];
-        least[OWED] = usize::from(phase == 4);
-        for (list, capacity) in CAPACITIES.into_iter().enumerate() {
-            for above in [0, 1] {
-                let mut lengths = least;
-                lengths[list] = capacity + above;
-                every_call(&Stored::sized(phase, lengths), each);
-            }
-        }
-        for list in [SAVED, PRESENT, REFUSED] {
-            for len in [192, 193] {
-                let mut lengths = least;
-                lengths[list] = len;
-                every_call(&Stored::sized(phase, lengths), each);
-            }
-        }
-        // the sums: these lists together, at their bound and one above
-        for (lists, bound) in [
-            (&[FRESH, OWED][..], 64),
-            (&[KNOWN, OWED], 1344),
-            (&[PRESENT, OWED], 256),
-            (&[REFUSED, OWED], 256),
-            (&[SAVED, FRESH, OWED], 256),
-            (&[SAVED, FRESH], 256),
-        ] {
-            for above in [0, 1] {
-                let mut lengths = least;
-                let mut left = bound + above;
-                for &list in &lists[1..] {
-                    lengths[list] = 20;
-                    left -= 20;
-                }
-                lengths[lists[0]] = left.min(CAPACITIES[lists[0]]);
-                every_call(&Stored::sized(phase, lengths), each);
-            }
-        }
-        let mut nothing_owed = Stored::sized(phase, [0; 9]);
-        every_call(&nothing_owed, each);
+        let mut all = |state: Stored| every_call(&state, each);
+        counts(phase, &mut all);
+        sums(phase, &mut all);
+        let nothing = Stored::sized(phase, [0; 9]);
         // a known list that is said not to be there
-        nothing_owed.known_kind = 0;
-        nothing_owed.lists[KNOWN] = vec![0, 5];
-        nothing_owed.lists[OWED] = vec![0; 5];
-        every_call(&nothing_owed, each);
+        let mut unknown = nothing.clone();
+        unknown.known_kind = 0;
+        unknown.lists[KNOWN] = vec![0, 5];
+        unknown.lists[OWED] = vec![0; 5];
+        all(nothing);
+        all(unknown);
+    }
+}
+
+/// As short as the phase allows.
+fn shortest(phase: u8) -> [usize; 9] {
+    let mut lengths = [0; 9];
+    lengths[OWED] = usize::from(phase == 4);
+    lengths
+}
+
+/// Each list at its capacity and one above; the record lists at 192 and one above.
+fn counts(phase: u8, each: &mut dyn FnMut(Stored)) {
+    let capacities = CAPACITIES.into_iter().enumerate();
+    let records = [SAVED, PRESENT, REFUSED].map(|list| (list, 192));
+    for (list, bound) in capacities.chain(records) {
+        for above in [0, 1] {
+            let mut lengths = shortest(phase);
+            lengths[list] = bound + above;
+            each(Stored::sized(phase, lengths));
+        }
+    }
+}
+
+/// Each sum at its bound and one above, no list over its capacity.
+fn sums(phase: u8, each: &mut dyn FnMut(Stored)) {
+    for (lists, bound) in [
+        (&[FRESH, OWED][..], 64),
+        (&[KNOWN, OWED], 1344),
+        (&[PRESENT, OWED], 256),
+        (&[REFUSED, OWED], 256),
+        (&[SAVED, FRESH, OWED], 256),
+        (&[SAVED, FRESH], 256),
+    ] {
+        for above in [0, 1] {
+            let mut lengths = shortest(phase);
+            for &list in &lists[1..] {
+                lengths[list] = 20;
+            }
+            lengths[lists[0]] = bound + above - 20 * (lists.len() - 1);
+            each(Stored::sized(phase, lengths));
+        }
     }
 }
 
