@@ -37,24 +37,24 @@ const fn part(program: &'static str, name: &'static str, kind: Kind, [quick, ful
     Part { program, name, kind, quick, full, sample }
 }
 
-/// In each program the edges come first.
+/// The edges come first, then the short parts.
 pub const PARTS: &[Part] = &[
     part("replay_framing", "framing-edges", Fixed(edges::framing), [0, 0, 0]),
-    part("replay_framing", "strings", Fixed(framing::strings), [7, 8, 3]),
-    part("replay_framing", "steps", Fixed(framing::steps), [1, 1, 0]),
+    part("replay_encode", "encode-edges", Fixed(edges::encode), [0, 0, 0]),
+    part("replay_records", "records-edges", Fixed(edges::records), [0, 0, 0]),
+    part("replay_session", "session-edges", Fixed(edges::session), [0, 0, 0]),
     part("replay_framing", "streams", Random(framing::case), [60_000, 1_000_000, 150]),
     part("replay_framing", "messages", Random(encode::message), [60_000, 1_000_000, 80]),
-    part("replay_encode", "encode-edges", Fixed(edges::encode), [0, 0, 0]),
     part("replay_encode", "encoders", Random(encode::case), [30_000, 1_000_000, 200]),
-    part("replay_records", "records-edges", Fixed(edges::records), [0, 0, 0]),
     part("replay_records", "records", Random(records::record), [30_000, 1_000_000, 150]),
     part("replay_records", "replies", Random(records::reply), [30_000, 1_000_000, 150]),
     part("replay_records", "products", Random(records::product), [30_000, 1_000_000, 100]),
-    part("replay_session", "session-edges", Fixed(edges::session), [0, 0, 0]),
     part("replay_session", "bounds", Fixed(states::bounds), [1, 1, 0]),
     part("replay_session", "orders", Fixed(orders::orders), [2, 3, 1]),
     part("replay_session", "sessions", Random(session::case), [30_000, 500_000, 20]),
     part("replay_session", "states", Random(states::case), [60_000, 1_000_000, 20]),
+    part("replay_framing", "strings", Fixed(framing::strings), [7, 8, 3]),
+    part("replay_framing", "steps", Fixed(framing::steps), [1, 1, 0]),
 ];
 
 /// The cases of a part: a size or a number of them.

@@ -1,4 +1,5 @@
-//! oracle compare BIN quick|full [SEED]    the port's programs in the folder BIN against canboat's Rust
+//! oracle compare BIN quick|full [SEED [--first]]   the port's programs in the folder BIN against canboat's Rust; --first: no
+//!                                         search for the smallest calls
 //! oracle differences                      the inputs of docs/DIFFERENCES.md, run on the Rust
 //! oracle parts                            the generators: program, name, sizes
 //! oracle alone PART SEED SIZE             the Rust by itself: how often each number was answered
@@ -56,8 +57,9 @@ fn main() {
     let words: Vec<&str> = words.iter().map(String::as_str).collect();
     let out: Vec<u8> = match words[..] {
         ["compare", bin, depth @ ("quick" | "full"), ref seed @ ..] => {
+            let first = words.last() == Some(&"--first");
             let seed = seed.first().map_or(1, |s| number(s));
-            if let Err(why) = compare::compare(Path::new(bin), depth == "full", seed) {
+            if let Err(why) = compare::compare(Path::new(bin), depth == "full", seed, first) {
                 println!("DIFFERENT: {why}");
                 std::process::exit(1);
             }
