@@ -32,9 +32,9 @@ fn run(calls: Vec<(u8, Vec<u8>)>, each: Each) {
 }
 
 const MODE_REPLY: &str = "11 01 0E 00 01 02 03 04 00 00 00 00 02 00";
-/// Format 1: PGNs 126992 and 127245; then what ends the list.
+/// Format 1: PGNs 126992 and 127245; then what ends the list, with 126983 in it, which must not be read.
 const LISTED: &str = "49 01 0E 00 01 02 03 04 00 00 00 00 02 10 F0 01 00 0D F1 01 00";
-const CLOSING: &str = "49 04 0E 00 01 02 03 04 00 00 00 00 01 07 EF 01 00";
+const CLOSING: &str = "49 04 0E 00 01 02 03 04 00 00 00 00 01 07 F0 01 00";
 const SUPPORTED: &str = "40 01 0E 00 01 02 03 04 00 00 00 00 00 00 11 00 00 34 12 02 00 02 00 10 F0 01 01 0D F1 01";
 const ENABLED: &str = "4F 01 0E 00 01 02 03 04 00 00 00 00 00 02 11 00 00 01 00 01 01 06 E8 03";
 const MAPS: &str = "4F 02 0E 00 01 02 03 04 00 00 00 00 00 03 11 00 00 02 01 80 01 02";
