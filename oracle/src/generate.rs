@@ -2,6 +2,7 @@
 mod encode;
 mod framing;
 mod gateway;
+mod largest;
 mod orders;
 mod records;
 mod rng;
@@ -10,7 +11,7 @@ mod states;
 
 pub use framing::streams;
 pub use rng::Rng;
-pub use states::{LIST, Stored, WANTED};
+pub use states::{LIST, OWED, Stored, WANTED};
 
 use crate::blocks::Blocks;
 use crate::edges;
@@ -49,6 +50,8 @@ pub const PARTS: &[Part] = &[
     part("replay_records", "records", Random(records::record), [30_000, 1_000_000, 150]),
     part("replay_records", "replies", Random(records::reply), [30_000, 1_000_000, 150]),
     part("replay_records", "products", Random(records::product), [30_000, 1_000_000, 100]),
+    part("replay_session", "refusals", Fixed(edges::refusals), [1, 1, 0]),
+    part("replay_session", "largest", Fixed(largest::largest), [1, 1, 0]),
     part("replay_session", "bounds", Fixed(states::bounds), [1, 1, 0]),
     part("replay_session", "orders", Fixed(orders::orders), [2, 3, 1]),
     part("replay_session", "sessions", Random(session::case), [30_000, 500_000, 20]),

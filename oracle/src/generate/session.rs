@@ -165,6 +165,10 @@ fn turn(r: &mut Rng, play: &mut Play, gateway: &mut Gateway, now: u64) {
             play.call(LACKS, &pgn(r).to_le_bytes());
             return;
         }
+        90 => {
+            play.call(IS_DONE, &[]);
+            return;
+        }
         _ => match gateway.speak(r) {
             Some(said) => (MESSAGE, said),
             None => (TICK, Vec::new()),

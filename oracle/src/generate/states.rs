@@ -15,8 +15,9 @@ pub const OWED: usize = 4;
 pub const FRESH: usize = 5;
 pub const LIST: usize = 6;
 pub const KNOWN: usize = 7;
+pub const PROPRIETARY: usize = 8;
 
-/// In that order; the last is proprietary's.
+/// In that order.
 const CAPACITIES: [usize; 9] = [64, 256, 256, 256, 64, 64, 1024, 1344, 512];
 
 #[derive(Clone, Default)]
@@ -76,11 +77,13 @@ pub fn every_call(state: &Stored, each: &mut dyn FnMut(&[u8])) {
         (FIRMWARE, vec![0xc4, 9]),
         (LACKS, vec![0, 0, 0, 0]),
         (ABANDON, vec![]),
+        (IS_DONE, vec![]),
     ] {
         let mut case = Vec::new();
         call(&mut case, SET_RAW, &body);
         call(&mut case, op, &arguments);
         call(&mut case, DUMP, &[]);
+        call(&mut case, LOOK, &[]);
         each(&case);
     }
     let mut case = Vec::new();
@@ -129,7 +132,18 @@ fn counts(phase: u8, each: &mut dyn FnMut(Stored)) {
         for above in [0, 1] {
             let mut lengths = shortest(phase);
             lengths[list] = bound + above;
-            each(Stored::sized(phase, lengths));
+            kinds(list, Stored::sized(phase, lengths), each);
+        }
+    }
+}
+
+/// The state; where the known list is at stake, also with a partial one and with none.
+fn kinds(list: usize, mut state: Stored, each: &mut dyn FnMut(Stored)) {
+    each(state.clone());
+    if list == KNOWN {
+        for kind in [0, 1] {
+            state.known_kind = kind;
+            each(state.clone());
         }
     }
 }
@@ -150,7 +164,7 @@ fn sums(phase: u8, each: &mut dyn FnMut(Stored)) {
                 lengths[list] = 20;
             }
             lengths[lists[0]] = bound + above - 20 * (lists.len() - 1);
-            each(Stored::sized(phase, lengths));
+            kinds(lists[0], Stored::sized(phase, lengths), each);
         }
     }
 }
@@ -178,13 +192,18 @@ fn random_state(r: &mut Rng, now: u64) -> Stored {
     };
     let supported: Vec<_> = places(r);
     let enabled: Vec<_> = places(r);
+    let phase = r.below(8) as u8;
+    let mut lists = random_lists(r);
+    if phase == 2 && r.chance(10) {
+        lists[LIST] = vec![9; r.around(&[964, 1000, 1023])];
+    }
     Stored {
-        phase: r.below(8) as u8,
-        due: now + r.below(12_000) as u64,
+        phase,
+        due: if r.chance(98) { now + r.below(12_000) as u64 } else { r.pick(&[0, LAST_TICK + 1, u64::MAX]) },
         attempt: r.pick(&[0, 1, 2, 3, 3, 4, 255]),
         firmware: r.chance(50).then(|| r.pick(&[0, 2499, 2500, 65_535])),
         known_kind: r.below(3) as u8,
-        lists: random_lists(r),
+        lists,
         flags: r.below(8) as u8,
         supported,
         enabled: enabled.into_iter().map(|p| p.map(|(index, _)| index)).collect(),
@@ -233,6 +252,7 @@ pub fn case(r: &mut Rng, case: &mut Vec<u8>) {
             6 => call(case, PARTS, &[]),
             7 => call(case, FIRMWARE, &r.pick(&[2499u16, 2500]).to_le_bytes()),
             8 if r.chance(20) => call(case, ABANDON, &[]),
+            8 => call(case, r.pick(&[IS_DONE, LOOK]), &[]),
             9 => {
                 let payload = taken(r);
                 let op = r.pick(&[MESSAGE, TICK]);
