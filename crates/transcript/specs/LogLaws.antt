@@ -104,6 +104,14 @@ puts-inside l (b ∷ bs) h =
     let q : put l b .place ≤ length (put l b .text) = omega (arith, put-moves l b .1 h) in
     omega (arith, puts-inside (put l b) bs q)
 
+-- the same from what a writer ensures
+pub puts-between : (r n : ℕ) (new old bs : List ℕ) → log r new ≡ puts (log n old) bs → n ≤ length old → (n ≤ r) × (r ≤ length new)
+puts-between r n new old bs e h =
+    let p : r ≡ puts (log n old) bs .place = ap (λ (l : Log). l .place) e in
+    let t : length new ≡ length (puts (log n old) bs .text) = ap (λ (l : Log). length (l .text)) e in
+    let u = puts-length (log n old) bs in
+    (omega (arith, puts-onward (log n old) bs), omega (arith, puts-inside (log n old) bs h))
+
 -- eight bytes as four and four
 bytes-eight : (x : ℕ) → bytesOf 8 x ≡ bytesOf 4 x ++ bytesOf 4 (x / 4294967296)
 unfolding bytesOf
