@@ -6,11 +6,15 @@ use lib.ListN.{length, getD}
 use Rattle.field.specs.Fields.{field}
 use Rattle.field.specs.Pick.{pick}
 
--- "sum: from 0, for each byte b: sum × 65,599 + b + 1, modulo 2,147,483,647"; here from any number t
+-- "for each byte b: sum × 65,599 + b + 1, modulo 2,147,483,647"
+abbrev pub mixed : ℕ → ℕ → ℕ
+mixed t b = (t * 65599 + b + 1) % 2147483647
+
 unfoldable pub sumFrom : ℕ → List ℕ → ℕ
 sumFrom t [] = t
-sumFrom t (b ∷ bs) = sumFrom ((t * 65599 + b + 1) % 2147483647) bs
+sumFrom t (b ∷ bs) = sumFrom (mixed t b) bs
 
+-- "sum: from 0"
 abbrev pub sumOf : List ℕ → ℕ
 sumOf s = sumFrom 0 s
 

@@ -1,11 +1,11 @@
 // What replay programs share: reading a script of calls and writing a transcript of answers (oracle/FORMAT.md).
 // A transcript is a lent slice and the place up to which it is written. No function here requires anything: what does not fit is dropped.
-ghost use Prim.Native.Nat.{_-_};
+ghost use Prim.Native.Nat.{_-_, _%_, _<_};
 ghost use mathlib.Core.Path.{_≡_};
 ghost use lib.ListN.{replicate};
 ghost use Rattle.field.specs.Fields.{bytesOf};
 ghost use Rattle.transcript.specs.Log.{log, put, puts, headOf, sized};
-ghost use Rattle.transcript.specs.Script.{sumOf, callSize};
+ghost use Rattle.transcript.specs.Script.{mixed, sumOf, callSize};
 use field::byte_at;
 use field::le16;
 use field::le32;
@@ -95,6 +95,15 @@ fn long(b: u8) -> u64
     b as u64
 }
 
+// The sum after one byte more. Modulo 2^31 - 1 the bits above 31 count as low ones; folding them down is faster than dividing.
+fn mix(t: u64, b: u8) -> u64
+    requires { ⌜ t < 4294967296 ⌝ }
+    ensures { λ r. ⌜ (r < 4294967296) × (r % 2147483647 ≡ mixed (t % 2147483647) b) ⌝ }
+{
+    let x = t * 65599 + long(b) + 1;
+    x % 2147483648 + x / 2147483648
+}
+
 // A number that stands for the bytes of a slice.
 pub fn sum(s: &[u8]) -> u32
     ensures { λ r. ⌜ r ≡ sumOf (now (s .entry)) ⌝ }
@@ -102,10 +111,10 @@ pub fn sum(s: &[u8]) -> u32
     let mut t: u64 = 0;
     let mut i = 0;
     while i < s.len() {
-        t = (t * 65599 + long(s[i]) + 1) % 2147483647;
+        t = mix(t, s[i]);
         i += 1;
     }
-    t as u32
+    (t % 2147483647) as u32
 }
 
 // The size of the call at a place of a script, or 0 where no whole call is left.

@@ -39,7 +39,8 @@ array-share-prefix-out : tie.Need-array-share-prefix-out
 array-share-prefix-out c = search needs
 
 slice-aggregate-write-all : tie.Need-slice-aggregate-write-all
-slice-aggregate-write-all c = let m = c .before in
+slice-aggregate-write-all c =
+    let m = c .before in
     let r = m .before .before in
     sym (length-take-le (m .min .result) (r .replay .last .1 .0) (search needs))
 

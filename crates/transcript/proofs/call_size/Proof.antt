@@ -13,7 +13,8 @@ byte-at-requires : tie.Need-byte-at-requires
 byte-at-requires c κs = search needs
 
 returns-2 : tie.Need-returns-2
-returns-2 c = let b = c .before in
+returns-2 c =
+    let b = c .before in
     let a = b .before .before .before .args in
     size-none (a .script .now) (a .at) (sym (b .byte-at .ensures) ∙ c .if2 .taken)
 
@@ -33,13 +34,15 @@ sub-if3 : tie.Need-sub-if3
 sub-if3 c = search needs
 
 returns-3 : tie.Need-returns-3
-returns-3 c = let u = c .before in
+returns-3 c =
+    let u = c .before in
     let b = u .before .before in
     let a = b .before .before .before .args in
     size-short (a .script .now) (a .at) (u .u16-at .result) (λ e. u .before .if2 .left (b .byte-at .ensures ∙ e)) (u .u16-at .ensures) (c .if3 .taken)
 
 returns-4 : tie.Need-returns-4
-returns-4 c = let u = c .before in
+returns-4 c =
+    let u = c .before in
     let b = u .before .before in
     let a = b .before .before .before .args in
     size-whole (a .script .now) (a .at) (u .u16-at .result) (λ e. u .before .if2 .left (b .byte-at .ensures ∙ e)) (u .u16-at .ensures) (c .if3 .left)

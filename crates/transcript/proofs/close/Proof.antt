@@ -20,7 +20,8 @@ same-length : tie.Need-same-length
 same-length c = search needs
 
 returns : tie.Need-returns
-returns c = let w = c .before .before in
+returns c =
+    let w = c .before .before in
     let m = w .before in
     let f = m .before in
     sized-said _ _ (w .put-u16 .result) (f .less .result) (m .less2 .result) _ _ (f .less .ensures) (m .less2 .ensures) (w .put-u16 .ensures)

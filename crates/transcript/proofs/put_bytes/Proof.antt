@@ -30,7 +30,8 @@ loop-less : tie.Need-loop-less Inv-loop μ-loop
 loop-less c = search needs
 
 loop-again : tie.Need-loop-again Inv-loop μ-loop
-loop-again c = let w = c .before .before in
+loop-again c =
+    let w = c .before .before in
     let l = w .before .before .before .before in
     let a = l .before .before .before .args in
     (search needs, puts-next _ _ _ (a .s .now) (l .loop .i) (search needs) (l .loop .inv .1) (w .put .ensures), search needs)
@@ -39,7 +40,8 @@ same-length : tie.Need-same-length Inv-loop μ-loop
 same-length c = search needs
 
 returns : tie.Need-returns Inv-loop μ-loop
-returns c = let l = c .before in
+returns c =
+    let l = c .before in
     let a = l .before .before .before .args in
     sym (puts-end _ _ (a .s .now) (l .loop .i) (search needs) (l .loop .inv .1))
 

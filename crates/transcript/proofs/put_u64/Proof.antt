@@ -20,7 +20,8 @@ same-length : tie.Need-same-length
 same-length c = search needs
 
 returns : tie.Need-returns
-returns c = let w = c .before .before in
+returns c =
+    let w = c .before .before in
     let m = w .before .before .before .before in
     puts-eight _ _ _ _ (m .put-u32 .ensures) (w .put-u322 .ensures)
 

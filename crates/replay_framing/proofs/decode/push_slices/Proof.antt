@@ -63,7 +63,8 @@ loop-less : tie.Need-loop-less Inv-loop μ-loop
 loop-less c = omega (arith, moved (c .before .before .before .before .before .before .before .before .before))
 
 loop-again : tie.Need-loop-again Inv-loop μ-loop
-loop-again c = let e = c .before .before .before .before .before in
+loop-again c =
+    let e = c .before .before .before .before .before in
     let p = e .before .before .before .before in
     (omega (arith, moved p), search needs, search needs)
 
