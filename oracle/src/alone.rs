@@ -1,6 +1,6 @@
 //! The Rust side by itself: how much each generator asks, and what it is answered.
 use crate::blocks::Blocks;
-use crate::generate::{Kind, Part, fill};
+use crate::generate::{Part, batches, fill};
 use crate::script::*;
 use crate::text;
 use std::collections::BTreeMap;
@@ -12,13 +12,9 @@ pub fn alone(part: &Part, seed: u64, size: usize) {
     let mut numbers: BTreeMap<(u8, u8), usize> = BTreeMap::new();
     let mut phases = [0usize; 8];
     let (mut cases, mut count) = (0, 0);
-    let batches = match part.kind {
-        Kind::Fixed(_) => vec![size],
-        Kind::Random(_) => (0..size).step_by(5_000).map(|i| 5_000.min(size - i)).collect(),
-    };
-    for (i, size) in batches.into_iter().enumerate() {
+    for (seed, size) in batches(part, seed, size) {
         let mut blocks = Blocks::default();
-        fill(part, seed.wrapping_add(i as u64), size, &mut blocks);
+        fill(part, seed, size, &mut blocks);
         cases += blocks.cases;
         count += blocks.calls;
         for (op, number, body) in answers(&blocks.transcript) {

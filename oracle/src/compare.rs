@@ -1,6 +1,6 @@
 //! The port's programs against canboat's Rust.
 use crate::blocks::{BLOCK, Blocks, run};
-use crate::generate::{Kind, PARTS, Part, Rng, fill, streams};
+use crate::generate::{PARTS, Part, Rng, batches, fill, streams};
 use crate::run::listing;
 use crate::script::{answers, call, calls};
 use crate::text;
@@ -28,21 +28,8 @@ fn output(program: &Path, input: &[u8]) -> Vec<u8> {
     told
 }
 
-/// How many cases go to the program at once.
-const BATCH: usize = 5_000;
-
-/// The part's batches: seed and size of each.
-fn batches(part: &Part, seed: u64, size: usize) -> Vec<(u64, usize)> {
-    match part.kind {
-        Kind::Fixed(_) => vec![(seed, size)],
-        Kind::Random(_) => (0..size.div_ceil(BATCH))
-            .map(|i| (seed.wrapping_mul(1_000_003).wrapping_add(i as u64), BATCH.min(size - i * BATCH)))
-            .collect(),
-    }
-}
-
 /// Compares a part; the Rust's side of a batch is made while the program runs on the one before. Prints what was compared.
-fn compare_part(program: &Path, part: &Part, seed: u64, size: usize) -> Result<(), String> {
+fn compare_part(program: &Path, part: &Part, seed: u64, size: usize, first: bool) -> Result<(), String> {
     let start = Instant::now();
     let (mut cases, mut count, mut bytes) = (0, 0, 0);
     let mut waiting: Option<thread::JoinHandle<Result<(), String>>> = None;
@@ -60,7 +47,7 @@ fn compare_part(program: &Path, part: &Part, seed: u64, size: usize) -> Result<(
             if told == blocks.transcript {
                 return Ok(());
             }
-            Err(format!("{name} seed {seed}:\n{}", difference(&program, &blocks, &told)))
+            Err(format!("{name} seed {seed}:\n{}", difference(&program, &blocks, &told, first)))
         }));
     }
     finish(waiting)?;
@@ -70,23 +57,21 @@ fn compare_part(program: &Path, part: &Part, seed: u64, size: usize) -> Result<(
     Ok(())
 }
 
-/// The first call that is answered differently, and the smallest calls that still are.
-fn difference(program: &Path, blocks: &Blocks, told: &[u8]) -> String {
+/// The first call that is answered differently and, unless `first`, the smallest calls that still are.
+fn difference(program: &Path, blocks: &Blocks, told: &[u8], first: bool) -> String {
     let (mut rust, mut port) = (answers(&blocks.transcript), answers(told));
     for (i, block) in blocks.script.chunks(BLOCK).enumerate() {
         for (at, op, body) in calls(block) {
             let (want, have) = (rust.next(), port.next());
             if want != have {
+                let (call, want, have) = (text::call(op, body), text::answer(want), text::answer(have));
+                let told = format!("block {i} at {at}: {call}\n  rust {want}\n  port {have}");
+                if first {
+                    return told;
+                }
                 let small = shrink(program, block);
                 let kept = save(program, &small);
-                return format!(
-                    "block {i} at {at}: {}\n  rust {}\n  port {}\nsmallest calls ({}):\n{}",
-                    text::call(op, body),
-                    text::answer(want),
-                    text::answer(have),
-                    kept.display(),
-                    told_twice(program, &small)
-                );
+                return format!("{told}\nsmallest calls ({}):\n{}", kept.display(), told_twice(program, &small));
             }
         }
     }
@@ -207,7 +192,7 @@ fn compare_listing(program: &Path, seed: u64, count: usize) -> Result<(), String
 }
 
 /// All parts whose program is there; names the programs that are not. Stops at the first difference.
-pub fn compare(bin: &Path, full: bool, seed: u64) -> Result<(), String> {
+pub fn compare(bin: &Path, full: bool, seed: u64, first: bool) -> Result<(), String> {
     let mut missing: Vec<&str> = Vec::new();
     for part in PARTS {
         let program = bin.join(part.program);
@@ -217,7 +202,7 @@ pub fn compare(bin: &Path, full: bool, seed: u64) -> Result<(), String> {
             }
             continue;
         }
-        compare_part(&program, part, seed, if full { part.full } else { part.quick })?;
+        compare_part(&program, part, seed, if full { part.full } else { part.quick }, first)?;
     }
     let program = bin.join("listing");
     if program.exists() {

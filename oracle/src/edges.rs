@@ -1,7 +1,9 @@
 //! The edges of document 01, published messages, and every pair of refusals that can hold at once, as fixed cases.
 use crate::script::*;
 
+mod refusals;
 mod session;
+pub use refusals::refusals;
 pub use session::session;
 
 type Each<'a> = &'a mut dyn FnMut(&[u8]);
@@ -179,7 +181,7 @@ fn text(content: &[u8], end: u8) -> Vec<u8> {
 pub fn records(_: usize, each: Each) {
     // 9, 8, 10 and their pairs; bytes after the data
     for command in [0x93, 0x94] {
-        for len in [0, 10, 11, 12, 13, 255] {
+        for len in [0, 10, 11, 12, 13, 255, 265, 266, 300] {
             for data in [0, 1, 2, 244, 255] {
                 let mut payload = vec![0x42; len];
                 if len > 10 {
@@ -192,8 +194,16 @@ pub fn records(_: usize, each: Each) {
     // the header's fields, −996, the modes, startup
     let error = hex("11 01 0E 00 78 56 34 12 1C FC FF FF 02 00");
     for len in 0..=error.len() {
-        for op in [REPLY, MODE, STARTUP, PROD_ADD] {
+        for op in [REPLY, MODE, STARTUP, RESPONSE, PROD_ADD, PROD_TAKE] {
             each(&case(&[(op, &error[..len])]));
+        }
+    }
+    // no reply is too long
+    for len in [255, 256, 300, 1000] {
+        let mut long = error.clone();
+        long.resize(len, 7);
+        for op in [REPLY, MODE, STARTUP, RESPONSE, PROD_ADD] {
+            each(&case(&[(op, &long)]));
         }
     }
     for mode in 0..9 {
@@ -205,6 +215,14 @@ pub fn records(_: usize, each: Each) {
     for version in VERSIONS {
         let software = text(version.as_bytes(), 0);
         each(&case(&[(PROD_RESET, &[]), (PROD_ADD, &reply(3, &software)), (FIRMWARE_OF, &[])]));
+        // any stored text, also one that `add` would not store
+        for before in ["", " ", "\0", "\u{e9}"] {
+            let stored = [before.as_bytes(), version.as_bytes(), &[0xE9, b'1']].concat();
+            let whole = stored.len().min(32);
+            for count in [0, 1, whole - 1, whole, 32, 33, 255] {
+                each(&case(&[(FIRMWARE_IN, &[&[count as u8], &stored[..]].concat())]));
+            }
+        }
     }
     products(each);
 }
@@ -238,6 +256,8 @@ fn products(each: Each) {
         odd[at] = 0xE9;
         each(&case(&[(PROD_RESET, &[]), (PROD_ADD, &reply(6, &odd)), (PROD_LOOK, &[])]));
     }
+    // one byte too few: nothing is set, so nothing is judged
+    each(&case(&[(PROD_RESET, &[]), (PROD_ADD, &reply(6, &[0xE9; 137])), (PROD_LOOK, &[])]));
     // 8, 16 and 15, alone and together, on a stored state, where all stays
     for counts in [[32; 4], [33, 0, 0, 0], [0, 33, 0, 0], [0, 0, 33, 0], [0, 0, 0, 255]] {
         for sequence in [1, 2, 6, 9] {
@@ -249,6 +269,7 @@ fn products(each: Each) {
                     (PROD_LOOK, &[]),
                     (FIRMWARE_OF, &[]),
                     (PROD_ADD, &add[..11]),
+                    (PROD_TAKE, &add[..11]),
                     (PROD_ADD, &add),
                     (PROD_LOOK, &[]),
                 ]));

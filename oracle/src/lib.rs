@@ -2,6 +2,7 @@
 pub mod alone;
 pub mod blocks;
 pub mod compare;
+pub mod differences;
 pub mod edges;
 pub mod generate;
 pub mod run;

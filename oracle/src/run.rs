@@ -54,18 +54,22 @@ impl Side {
             DEC_RESET | DEC_PUSH | DEC_BYTES | DEC_SET | DEC_RAW | DEC_LOOK => self.framing.step(op, body).into(),
             ENCODE | N2K_SEND | N2K_RECV | PCODE | COMMAND => encoders::step(op, body).into(),
             LENT => encoders::lent(body),
-            N2K_READ | REPLY | MODE | STARTUP => replies::step(op, body).into(),
-            PROD_RESET | PROD_ADD | PROD_RAW | PROD_LOOK | FIRMWARE_OF => self.product.step(op, body).into(),
+            N2K_READ | REPLY | MODE | STARTUP | RESPONSE => replies::step(op, body).into(),
+            PROD_RESET | PROD_ADD | PROD_TAKE | PROD_RAW | PROD_LOOK | FIRMWARE_OF | FIRMWARE_IN => {
+                self.product.step(op, body).into()
+            }
             BEGIN => self.put(Session::begin(body)),
             SET => self.put(Session::set(body)),
             SET_RAW => {
                 self.session = Some(Session::set_raw(body));
                 Ok(Vec::new()).into()
             }
-            RESTART | MESSAGE | TICK | FIRMWARE | LACKS | ABANDON | DUMP | PARTS => match &mut self.session {
-                Some(session) => session.step(op, body).into(),
-                None => Answer::refused(NO_SESSION),
-            },
+            RESTART | MESSAGE | TICK | FIRMWARE | LACKS | ABANDON | DUMP | PARTS | IS_DONE | LOOK => {
+                match &mut self.session {
+                    Some(session) => session.step(op, body).into(),
+                    None => Answer::refused(NO_SESSION),
+                }
+            }
             LENT_S => match &mut self.session {
                 Some(session) => session.lent(body),
                 None => Answer::refused(NO_SESSION),

@@ -13,11 +13,14 @@ pub const N2K_READ: u8 = 0x22;
 pub const REPLY: u8 = 0x30;
 pub const MODE: u8 = 0x31;
 pub const STARTUP: u8 = 0x32;
+pub const RESPONSE: u8 = 0x33;
 pub const PROD_RESET: u8 = 0x38;
 pub const PROD_ADD: u8 = 0x39;
 pub const PROD_RAW: u8 = 0x3a;
 pub const PROD_LOOK: u8 = 0x3b;
 pub const FIRMWARE_OF: u8 = 0x3c;
+pub const PROD_TAKE: u8 = 0x3d;
+pub const FIRMWARE_IN: u8 = 0x3e;
 pub const PCODE: u8 = 0x48;
 pub const COMMAND: u8 = 0x49;
 pub const LENT: u8 = 0x4a;
@@ -33,6 +36,8 @@ pub const SET: u8 = 0x68;
 pub const SET_RAW: u8 = 0x69;
 pub const LENT_S: u8 = 0x6a;
 pub const PARTS: u8 = 0x6b;
+pub const IS_DONE: u8 = 0x6c;
+pub const LOOK: u8 = 0x6d;
 
 /// No such op; no session.
 pub const UNKNOWN: u8 = 254;

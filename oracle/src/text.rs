@@ -16,11 +16,14 @@ const OPS: &[(u8, &str, &[(&str, usize)])] = &[
     (REPLY, "REPLY", &[]),
     (MODE, "MODE", &[]),
     (STARTUP, "STARTUP", &[]),
+    (RESPONSE, "RESPONSE", &[]),
     (PROD_RESET, "PROD_RESET", &[]),
     (PROD_ADD, "PROD_ADD", &[]),
     (PROD_RAW, "PROD_RAW", &[("parts", 1), ("model", 1), ("software", 1), ("hardware", 1), ("serial", 1)]),
     (PROD_LOOK, "PROD_LOOK", &[]),
     (FIRMWARE_OF, "FIRMWARE_OF", &[]),
+    (PROD_TAKE, "PROD_TAKE", &[]),
+    (FIRMWARE_IN, "FIRMWARE_IN", &[("count", 1)]),
     (PCODE, "PCODE", &[("room", 2)]),
     (COMMAND, "COMMAND", &[("kind", 1), ("room", 2)]),
     (LENT, "LENT", &[("op", 1)]),
@@ -36,6 +39,8 @@ const OPS: &[(u8, &str, &[(&str, usize)])] = &[
     (SET_RAW, "SET_RAW", &[("phase", 1), ("due", 8), ("attempt", 1)]),
     (LENT_S, "LENT_S", &[("op", 1), ("now", 8), ("room", 2)]),
     (PARTS, "PARTS", &[]),
+    (IS_DONE, "IS_DONE", &[]),
+    (LOOK, "LOOK", &[]),
 ];
 
 pub fn hex(bytes: &[u8]) -> String {

@@ -1,4 +1,6 @@
-//! oracle compare BIN quick|full [SEED]    the port's programs in the folder BIN against canboat's Rust
+//! oracle compare BIN quick|full [SEED [--first]]   the port's programs in the folder BIN against canboat's Rust; --first: no
+//!                                         search for the smallest calls
+//! oracle differences                      the inputs of docs/DIFFERENCES.md, run on the Rust
 //! oracle parts                            the generators: program, name, sizes
 //! oracle alone PART SEED SIZE             the Rust by itself: how often each number was answered
 //! oracle script PROGRAM quick|full SEED   > script
@@ -10,7 +12,7 @@
 use oracle::blocks::{BLOCK, Blocks, run};
 use oracle::generate::{PARTS, Part, fill};
 use oracle::script::{answers, calls};
-use oracle::{alone, compare, run as side, text};
+use oracle::{alone, compare, differences, run as side, text};
 use std::io::{Read, Write};
 use std::path::Path;
 
@@ -74,9 +76,21 @@ fn main() {
     let words: Vec<&str> = words.iter().map(String::as_str).collect();
     let out: Vec<u8> = match words[..] {
         ["compare", bin, depth @ ("quick" | "full"), ref seed @ ..] => {
+            let first = words.last() == Some(&"--first");
             let seed = seed.first().map_or(1, |s| number(s));
-            if let Err(why) = compare::compare(Path::new(bin), depth == "full", seed) {
+            if let Err(why) = compare::compare(Path::new(bin), depth == "full", seed, first) {
                 println!("DIFFERENT: {why}");
+                std::process::exit(1);
+            }
+            Vec::new()
+        }
+        ["differences"] => {
+            let (count, wrong) = differences::differences();
+            for name in &wrong {
+                println!("not so: {name}");
+            }
+            println!("differences     {count} inputs, {} as docs/DIFFERENCES.md says of the Rust", count - wrong.len());
+            if !wrong.is_empty() {
                 std::process::exit(1);
             }
             Vec::new()

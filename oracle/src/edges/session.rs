@@ -1,10 +1,9 @@
 //! The session's fixed cases.
 use super::{Each, case, hex, u16s};
-use crate::generate::{LIST, Stored, WANTED};
-use crate::run::LAST_TICK;
+use crate::generate::Stored;
 use crate::script::*;
 
-fn at(now: u64, room: usize, payload: &[u8]) -> Vec<u8> {
+pub(super) fn at(now: u64, room: usize, payload: &[u8]) -> Vec<u8> {
     [&now.to_le_bytes()[..], &u16s(&[room]), payload].concat()
 }
 
@@ -32,9 +31,9 @@ fn run(calls: Vec<(u8, Vec<u8>)>, each: Each) {
 }
 
 const MODE_REPLY: &str = "11 01 0E 00 01 02 03 04 00 00 00 00 02 00";
-/// Format 1: PGNs 126992 and 127245; then what ends the list.
-const LISTED: &str = "49 01 0E 00 01 02 03 04 00 00 00 00 02 10 F0 01 00 0D F1 01 00";
-const CLOSING: &str = "49 04 0E 00 01 02 03 04 00 00 00 00 01 07 EF 01 00";
+/// Format 1: PGNs 126992 and 127245; then what ends the list, with 126983 in it, which must not be read.
+pub(super) const LISTED: &str = "49 01 0E 00 01 02 03 04 00 00 00 00 02 10 F0 01 00 0D F1 01 00";
+const CLOSING: &str = "49 04 0E 00 01 02 03 04 00 00 00 00 01 07 F0 01 00";
 const SUPPORTED: &str = "40 01 0E 00 01 02 03 04 00 00 00 00 00 00 11 00 00 34 12 02 00 02 00 10 F0 01 01 0D F1 01";
 const ENABLED: &str = "4F 01 0E 00 01 02 03 04 00 00 00 00 00 02 11 00 00 01 00 01 01 06 E8 03";
 const MAPS: &str = "4F 02 0E 00 01 02 03 04 00 00 00 00 00 03 11 00 00 02 01 80 01 02";
@@ -134,54 +133,6 @@ fn stories(each: Each) {
     with(reading([&[7], &[], &[], &[]], Some(2500)), odd, each);
 }
 
-/// 16, 13, 6, 7 and 14 of a message, 16, 13 and 7 of a tick: each set of them at once, with the lent bytes.
-fn refused_calls(each: Each) {
-    for set in 0..32 {
-        let holds = |i: usize| set >> i & 1 == 1;
-        let mut lengths = [0; 9];
-        lengths[WANTED] = if holds(0) { 65 } else { 1 };
-        lengths[LIST] = 1024;
-        let state = Stored::sized(2, lengths).body();
-        let now = if holds(1) { LAST_TICK + 1 } else { LAST_TICK };
-        let mut payload = hex(if holds(4) { LISTED } else { CLOSING });
-        payload.resize(if holds(2) { 256 } else { 255 }, 0);
-        let body = at(now, if holds(3) { 31 } else { 32 }, &payload);
-        for op in [MESSAGE, TICK] {
-            let lent = [&[op], &body[..]].concat();
-            each(&case(&[(SET_RAW, &state), (op, &body), (DUMP, &[])]));
-            each(&case(&[(SET_RAW, &state), (LENT_S, &lent), (DUMP, &[])]));
-        }
-    }
-    // 14 counts what would be added, and only where it would be
-    for (have, count, told) in
-        [(1023, 1, 1), (1023, 2, 2), (1023, 2, 1), (1024, 0, 3), (1024, 1, 0), (964, 60, 60), (965, 60, 60)]
-    {
-        let mut lengths = [0; 9];
-        lengths[LIST] = have;
-        for phase in [2, 3] {
-            let mut payload = hex("49 01 0E 00 01 02 03 04 00 00 00 00");
-            payload.push(count);
-            payload.extend_from_slice(&vec![3; 4 * told]);
-            let state = Stored::sized(phase, lengths).body();
-            each(&case(&[(SET, &state), (MESSAGE, &at(0, 32, &payload)), (DUMP, &[])]));
-        }
-    }
-    // begin: 11 and 12, each list; restart: 16 and 12
-    for wanted in [64, 65] {
-        for (saved, present, refused) in [(192, 192, 192), (193, 0, 0), (0, 193, 0), (0, 0, 193)] {
-            let body = u16s(&[wanted, saved, present, refused]);
-            each(&case(&[(BEGIN, &body), (TICK, &at(0, 32, &[]))]));
-            let stored = Stored::sized(7, [wanted, saved, present, refused, 0, 0, 0, 0, 0]).body();
-            each(&case(&[(SET_RAW, &stored), (RESTART, &[]), (DUMP, &[])]));
-        }
-    }
-    // no session
-    for op in [RESTART, MESSAGE, TICK, FIRMWARE, LACKS, ABANDON, DUMP, PARTS, LENT_S] {
-        let none = (BEGIN, &u16s(&[65, 0, 0, 0])[..]);
-        each(&case(&[none, (op, &[])]));
-    }
-}
-
 /// Known lists that a third attempt of Format 1 ends with, and attempt numbers that no session has.
 fn odd_states(each: Each) {
     for attempt in [0, 1, 2, 3, 4, 255] {
@@ -200,6 +151,5 @@ fn odd_states(each: Each) {
 
 pub fn session(_: usize, each: Each) {
     stories(each);
-    refused_calls(each);
     odd_states(each);
 }

@@ -27,6 +27,7 @@ fn every_order(parts: &mut Vec<Vec<u8>>, from: usize, each: &mut dyn FnMut(&[Vec
 
 /// Lists of up to `largest` places, cut into parts of up to that many, in every order, each part told and then, at the end, told again.
 pub fn orders(largest: usize, each: &mut dyn FnMut(&[u8])) {
+    odd_parts(each);
     let supported: Vec<(u8, u32)> = (0..3).map(|i| (2 * i, 130_300 + u32::from(i))).collect();
     let enabled = [4, 0, 9];
     for s in 0..=largest {
@@ -48,6 +49,60 @@ pub fn orders(largest: usize, each: &mut dyn FnMut(&[u8])) {
     }
 }
 
+/// Parts that do not fit together: a size that changes, places at and past the end, a count that is not so, a cut entry, overlaps,
+/// other variants, too little data.
+fn odd_parts(each: &mut dyn FnMut(&[u8])) {
+    let entry = |index: u8| (index, 130_300 + u32::from(index));
+    let supported = |size, first, count, n: u8| {
+        let entries: Vec<_> = (0..n).map(|i| entry(first + i)).collect();
+        reply_of(0x40, 1, 0, &supported_part(size, first, count, &entries))
+    };
+    let enabled = |size, first, count, indexes: &[u8]| reply_of(0x4f, 1, 0, &enabled_part(size, first, count, indexes));
+    let maps = reply_of(0x4f, 2, 0, &proprietary_part([&[1, 0x80], &[2]]));
+    let cut = |part: Vec<u8>, less: usize| part[..part.len() - less].to_vec();
+    let with = |mut part: Vec<u8>, at: usize, b: u8| {
+        part[at] = b;
+        part
+    };
+    let whole = supported(3, 0, 3, 3);
+    for odd in [
+        supported(4, 0, 3, 3),
+        supported(2, 0, 3, 3),
+        supported(3, 3, 1, 1),
+        supported(3, 9, 1, 1),
+        supported(3, 2, 3, 3),
+        supported(3, 0, 0, 3),
+        supported(3, 0, 255, 1),
+        supported(3, 1, 2, 1),
+        supported(255, 254, 2, 1),
+        supported(0, 0, 1, 1),
+        with(whole.clone(), 20, 254),
+        cut(supported(3, 0, 3, 3), 1),
+        cut(supported(3, 0, 0, 0), 1),
+        with(whole.clone(), 13, 1),
+        with(whole.clone(), 14, 0x12),
+        with(whole.clone(), 15, 1),
+        with(whole.clone(), 16, 1),
+        with(whole.clone(), 0, 0x4f),
+        enabled(2, 0, 3, &[0, 1, 2]),
+        enabled(4, 0, 3, &[0, 1, 2]),
+        enabled(3, 1, 9, &[1]),
+        cut(enabled(3, 0, 3, &[2, 2, 9]), 3),
+        cut(enabled(3, 0, 0, &[]), 1),
+        cut(maps.clone(), 1),
+        cut(maps.clone(), 2),
+        reply_of(0x4f, 2, 0, &proprietary_part([&[0xFF; 40], &[0x81; 33]])),
+        reply_of(0x4f, 2, 0, &[proprietary_part([&[8], &[]]), vec![1, 2, 3]].concat()),
+    ] {
+        let parts = [whole.clone(), enabled(3, 0, 3, &[2, 0, 9]), maps.clone()];
+        for at in 0..=2 {
+            let mut told = parts.to_vec();
+            told.insert(at, odd.clone());
+            each(&read(&told));
+        }
+    }
+}
+
 /// A session that reads in Format 2 and is told these parts.
 fn read(parts: &[Vec<u8>]) -> Vec<u8> {
     let mut case = Vec::new();
@@ -58,6 +113,7 @@ fn read(parts: &[Vec<u8>]) -> Vec<u8> {
     call(&mut case, TICK, &at(2_000, 32, &[]));
     for (i, part) in parts.iter().enumerate() {
         call(&mut case, MESSAGE, &at(2_001 + i as u64, 32, part));
+        call(&mut case, PARTS, &[]);
     }
     call(&mut case, MESSAGE, &at(2_100, 32, &parts[0]));
     call(&mut case, DUMP, &[]);

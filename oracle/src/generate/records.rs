@@ -13,10 +13,10 @@ pub fn reply_of(bem: u8, sequence: u8, error: i32, data: &[u8]) -> Vec<u8> {
 
 /// `to_raw_frame`: lengths around 11 and around the data's end, commands 93 and others.
 pub fn record(r: &mut Rng, case: &mut Vec<u8>) {
-    let len = if r.chance(50) { r.around(&[0, 10, 11, 12, 20, 254]) } else { r.below(256) };
+    let len = if r.chance(50) { r.around(&[0, 10, 11, 12, 20, 255, 266]) } else { r.below(300) };
     let mut payload = r.bytes(len);
     if len > 10 && r.chance(90) {
-        payload[10] = (len - 11 + 1).saturating_sub(r.below(4)) as u8;
+        payload[10] = (len - 11 + 1).saturating_sub(r.below(4)).min(255) as u8;
     }
     payload.insert(0, r.pick(&[0x93, 0x93, 0x93, 0x93, 0x94, 0x92, 0xA0]));
     call(case, N2K_READ, &payload);
@@ -26,13 +26,13 @@ pub fn record(r: &mut Rng, case: &mut Vec<u8>) {
 pub fn reply(r: &mut Rng, case: &mut Vec<u8>) {
     match r.below(3) {
         0 => {
-            let len = if r.chance(50) { r.around(&[0, 11, 12, 13, 254]) } else { r.below(256) };
+            let len = if r.chance(50) { r.around(&[0, 11, 12, 13, 255]) } else { r.below(300) };
             let mut payload = r.bytes(len);
             if len > 11 && r.chance(50) {
                 let error = r.pick(&[0, -996, -997, 1, i32::MIN, i32::MAX, -1]);
                 payload[8..12].copy_from_slice(&error.to_le_bytes());
             }
-            call(case, REPLY, &payload);
+            call(case, r.pick(&[REPLY, RESPONSE]), &payload);
         }
         1 => {
             let len = r.around(&[11, 12, 13, 14, 15, 40]);
@@ -42,12 +42,12 @@ pub fn reply(r: &mut Rng, case: &mut Vec<u8>) {
                 payload[12] = r.below(9) as u8;
                 payload[13] = r.pick(&[0, 0, 0, 1]);
             }
-            call(case, MODE, &payload);
+            call(case, r.pick(&[MODE, RESPONSE]), &payload);
         }
         _ => {
             let len = r.around(&[11, 12, 14, 15, 17, 18, 19]);
             let payload = r.bytes(len);
-            call(case, STARTUP, &payload);
+            call(case, r.pick(&[STARTUP, RESPONSE]), &payload);
         }
     }
 }
@@ -152,11 +152,14 @@ pub fn product(r: &mut Rng, case: &mut Vec<u8>) {
         if r.chance(2) {
             payload.truncate(r.around(&[11]));
         }
-        call(case, PROD_ADD, &payload);
+        call(case, r.pick(&[PROD_ADD, PROD_ADD, PROD_TAKE]), &payload);
         if r.chance(30) {
             call(case, r.pick(&[PROD_LOOK, FIRMWARE_OF]), &[]);
         }
     }
     call(case, PROD_LOOK, &[]);
     call(case, FIRMWARE_OF, &[]);
+    let stored = text(r);
+    let count = r.pick(&[32, 32, 31, 5, 0, 33]);
+    call(case, FIRMWARE_IN, &[&[count], &stored[..]].concat());
 }

@@ -41,6 +41,7 @@ impl Play<'_> {
 /// The clock's next reading.
 fn later(r: &mut Rng, now: u64, due: u64, dawdles: bool) -> u64 {
     const HOUR: u64 = 3_600_000;
+    let due = if due == 0 { now } else { due };
     match r.below(if dawdles { 8 } else { 20 }) {
         0 | 1 => due.saturating_sub(1),
         2 | 3 => due,
@@ -162,6 +163,10 @@ fn turn(r: &mut Rng, play: &mut Play, gateway: &mut Gateway, now: u64) {
         }
         91..=93 => {
             play.call(LACKS, &pgn(r).to_le_bytes());
+            return;
+        }
+        90 => {
+            play.call(IS_DONE, &[]);
             return;
         }
         _ => match gateway.speak(r) {

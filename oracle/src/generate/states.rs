@@ -15,8 +15,9 @@ pub const OWED: usize = 4;
 pub const FRESH: usize = 5;
 pub const LIST: usize = 6;
 pub const KNOWN: usize = 7;
+pub const PROPRIETARY: usize = 8;
 
-/// In that order; the last is proprietary's.
+/// In that order.
 const CAPACITIES: [usize; 9] = [64, 256, 256, 256, 64, 64, 1024, 1344, 512];
 
 #[derive(Clone, Default)]
@@ -76,11 +77,13 @@ pub fn every_call(state: &Stored, each: &mut dyn FnMut(&[u8])) {
         (FIRMWARE, vec![0xc4, 9]),
         (LACKS, vec![0, 0, 0, 0]),
         (ABANDON, vec![]),
+        (IS_DONE, vec![]),
     ] {
         let mut case = Vec::new();
         call(&mut case, SET_RAW, &body);
         call(&mut case, op, &arguments);
         call(&mut case, DUMP, &[]);
+        call(&mut case, LOOK, &[]);
         each(&case);
     }
     let mut case = Vec::new();
@@ -89,53 +92,80 @@ pub fn every_call(state: &Stored, each: &mut dyn FnMut(&[u8])) {
     each(&case);
 }
 
-/// Every bound of "State is not well formed when", at the bound and one above, in every phase.
-pub fn bounds(_: usize, each: &mut dyn FnMut(&[u8])) {
+/// Every bound of "State is not well formed when", at the bound and one above, in every phase. Size 0: enabling's sums, one call.
+pub fn bounds(size: usize, each: &mut dyn FnMut(&[u8])) {
+    if size == 0 {
+        return sums(4, &mut |state| {
+            let mut case = Vec::new();
+            call(&mut case, SET_RAW, &state.body());
+            call(&mut case, MESSAGE, &at(5_000, 32, &reply_of(0x47, 1, 0, &[])));
+            each(&case);
+        });
+    }
     for phase in 0..8 {
-        // as small as the phase allows
-        let mut least = [0; 9];
-        least[OWED] = usize::from(phase == 4);
-        for (list, capacity) in CAPACITIES.into_iter().enumerate() {
-            for above in [0, 1] {
-                let mut lengths = least;
-                lengths[list] = capacity + above;
-                every_call(&Stored::sized(phase, lengths), each);
-            }
-        }
-        for list in [SAVED, PRESENT, REFUSED] {
-            for len in [192, 193] {
-                let mut lengths = least;
-                lengths[list] = len;
-                every_call(&Stored::sized(phase, lengths), each);
-            }
-        }
-        // the sums: these lists together, at their bound and one above
-        for (lists, bound) in [
-            (&[FRESH, OWED][..], 64),
-            (&[KNOWN, OWED], 1344),
-            (&[PRESENT, OWED], 256),
-            (&[REFUSED, OWED], 256),
-            (&[SAVED, FRESH, OWED], 256),
-            (&[SAVED, FRESH], 256),
-        ] {
-            for above in [0, 1] {
-                let mut lengths = least;
-                let mut left = bound + above;
-                for &list in &lists[1..] {
-                    lengths[list] = 20;
-                    left -= 20;
-                }
-                lengths[lists[0]] = left.min(CAPACITIES[lists[0]]);
-                every_call(&Stored::sized(phase, lengths), each);
-            }
-        }
-        let mut nothing_owed = Stored::sized(phase, [0; 9]);
-        every_call(&nothing_owed, each);
+        let mut all = |state: Stored| every_call(&state, each);
+        counts(phase, &mut all);
+        sums(phase, &mut all);
+        let nothing = Stored::sized(phase, [0; 9]);
         // a known list that is said not to be there
-        nothing_owed.known_kind = 0;
-        nothing_owed.lists[KNOWN] = vec![0, 5];
-        nothing_owed.lists[OWED] = vec![0; 5];
-        every_call(&nothing_owed, each);
+        let mut unknown = nothing.clone();
+        unknown.known_kind = 0;
+        unknown.lists[KNOWN] = vec![0, 5];
+        unknown.lists[OWED] = vec![0; 5];
+        all(nothing);
+        all(unknown);
+    }
+}
+
+/// As short as the phase allows.
+fn shortest(phase: u8) -> [usize; 9] {
+    let mut lengths = [0; 9];
+    lengths[OWED] = usize::from(phase == 4);
+    lengths
+}
+
+/// Each list at its capacity and one above; the record lists at 192 and one above.
+fn counts(phase: u8, each: &mut dyn FnMut(Stored)) {
+    let capacities = CAPACITIES.into_iter().enumerate();
+    let records = [SAVED, PRESENT, REFUSED].map(|list| (list, 192));
+    for (list, bound) in capacities.chain(records) {
+        for above in [0, 1] {
+            let mut lengths = shortest(phase);
+            lengths[list] = bound + above;
+            kinds(list, Stored::sized(phase, lengths), each);
+        }
+    }
+}
+
+/// The state; where the known list is at stake, also with a partial one and with none.
+fn kinds(list: usize, mut state: Stored, each: &mut dyn FnMut(Stored)) {
+    each(state.clone());
+    if list == KNOWN {
+        for kind in [0, 1] {
+            state.known_kind = kind;
+            each(state.clone());
+        }
+    }
+}
+
+/// Each sum at its bound and one above, no list over its capacity.
+fn sums(phase: u8, each: &mut dyn FnMut(Stored)) {
+    for (lists, bound) in [
+        (&[FRESH, OWED][..], 64),
+        (&[KNOWN, OWED], 1344),
+        (&[PRESENT, OWED], 256),
+        (&[REFUSED, OWED], 256),
+        (&[SAVED, FRESH, OWED], 256),
+        (&[SAVED, FRESH], 256),
+    ] {
+        for above in [0, 1] {
+            let mut lengths = shortest(phase);
+            for &list in &lists[1..] {
+                lengths[list] = 20;
+            }
+            lengths[lists[0]] = bound + above - 20 * (lists.len() - 1);
+            kinds(lists[0], Stored::sized(phase, lengths), each);
+        }
     }
 }
 
@@ -162,13 +192,18 @@ fn random_state(r: &mut Rng, now: u64) -> Stored {
     };
     let supported: Vec<_> = places(r);
     let enabled: Vec<_> = places(r);
+    let phase = r.below(8) as u8;
+    let mut lists = random_lists(r);
+    if phase == 2 && r.chance(10) {
+        lists[LIST] = vec![9; r.around(&[964, 1000, 1023])];
+    }
     Stored {
-        phase: r.below(8) as u8,
-        due: now + r.below(12_000) as u64,
+        phase,
+        due: if r.chance(98) { now + r.below(12_000) as u64 } else { r.pick(&[0, LAST_TICK + 1, u64::MAX]) },
         attempt: r.pick(&[0, 1, 2, 3, 3, 4, 255]),
         firmware: r.chance(50).then(|| r.pick(&[0, 2499, 2500, 65_535])),
         known_kind: r.below(3) as u8,
-        lists: random_lists(r),
+        lists,
         flags: r.below(8) as u8,
         supported,
         enabled: enabled.into_iter().map(|p| p.map(|(index, _)| index)).collect(),
@@ -217,6 +252,7 @@ pub fn case(r: &mut Rng, case: &mut Vec<u8>) {
             6 => call(case, PARTS, &[]),
             7 => call(case, FIRMWARE, &r.pick(&[2499u16, 2500]).to_le_bytes()),
             8 if r.chance(20) => call(case, ABANDON, &[]),
+            8 => call(case, r.pick(&[IS_DONE, LOOK]), &[]),
             9 => {
                 let payload = taken(r);
                 let op = r.pick(&[MESSAGE, TICK]);

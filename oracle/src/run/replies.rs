@@ -7,6 +7,7 @@ pub fn step(op: u8, body: &[u8]) -> Result<Vec<u8>, u8> {
     match op {
         N2K_READ => record(body),
         REPLY => Ok(reply(&parse(body)?)),
+        RESPONSE => Ok(response(body)),
         MODE => Ok(match parse(body)?.operating_mode() {
             None => vec![0],
             Some(mode) => [&[1], &mode.code().to_le_bytes()[..]].concat(),
@@ -21,6 +22,34 @@ fn parse(payload: &[u8]) -> Result<BemResponse<'_>, u8> {
     // the Rust has this refusal too
     assert_eq!(parsed.is_none(), refusals::reply(payload.len()).is_err());
     parsed.ok_or(8)
+}
+
+/// "A number field of it tells refusal 8; the data are then empty and the other fields 0."
+fn parse_or_none(payload: &[u8]) -> (u8, BemResponse<'_>) {
+    match parse(payload) {
+        Ok(b) => (0, b),
+        Err(number) => (number, BemResponse { bem: 0, sequence: 0, model_id: 0, serial: 0, error: 0, data: &[] }),
+    }
+}
+
+/// The response that `parse` makes of any payload, and what `operating_mode` and `startup_status` say of it.
+fn response(payload: &[u8]) -> Vec<u8> {
+    let (number, b) = parse_or_none(payload);
+    let mut out = vec![number];
+    let head = reply(&b);
+    out.extend_from_slice(&head[..12]);
+    put_u16(&mut out, b.data.len());
+    out.extend_from_slice(b.data);
+    let mode = b.operating_mode().map(OperatingMode::code);
+    out.push(mode.is_some().into());
+    put_u16(&mut out, mode.unwrap_or(0).into());
+    let (number, status) = match startup(&b) {
+        Ok(status) => (0, status),
+        Err(number) => (number, vec![0; 6]),
+    };
+    out.push(number);
+    out.extend_from_slice(&status);
+    out
 }
 
 fn record(body: &[u8]) -> Result<Vec<u8>, u8> {
@@ -62,6 +91,28 @@ fn startup(b: &BemResponse) -> Result<Vec<u8>, u8> {
     Ok(out)
 }
 
+fn firmware(info: &ProductInfo) -> Vec<u8> {
+    match info.firmware() {
+        None => vec![0],
+        Some(f) => [&[1], &f.to_le_bytes()[..]].concat(),
+    }
+}
+
+/// The firmware of any stored software text. A byte from 80 up, which the Rust's text cannot hold, is neither digit nor dot, like `x`.
+fn firmware_in(body: &[u8]) -> Result<Vec<u8>, u8> {
+    let mut r = Reader(body);
+    let count = r.u8();
+    refusals::texts([0, count, 0, 0])?;
+    let stored = |_| match r.u8() {
+        b if b.is_ascii() => char::from(b),
+        _ => 'x',
+    };
+    let software_version = (0..count).map(stored).collect();
+    let mut info = ProductInfo::default();
+    info.software_version = software_version;
+    Ok(firmware(&info))
+}
+
 #[derive(Default)]
 pub struct Product {
     info: ProductInfo,
@@ -83,21 +134,21 @@ impl Product {
                 self.set_raw(body);
                 Ok(Vec::new())
             }
-            PROD_ADD => {
-                let reply = parse(body)?;
-                refusals::product(self.counts(), &reply)?;
-                let whole = self.info.add(&reply);
-                Ok([&[whole.into()], &self.look()[..]].concat())
-            }
+            PROD_ADD => self.add(&parse(body)?),
+            PROD_TAKE => self.add(&parse_or_none(body).1),
+            FIRMWARE_IN => firmware_in(body),
             PROD_LOOK => Ok(self.look()),
             _ => {
                 refusals::texts(self.counts())?;
-                Ok(match self.info.firmware() {
-                    None => vec![0],
-                    Some(f) => [&[1], &f.to_le_bytes()[..]].concat(),
-                })
+                Ok(firmware(&self.info))
             }
         }
+    }
+
+    fn add(&mut self, reply: &BemResponse) -> Result<Vec<u8>, u8> {
+        refusals::product(self.counts(), reply)?;
+        let whole = self.info.add(reply);
+        Ok([&[whole.into()], &self.look()[..]].concat())
     }
 
     fn texts(&self) -> [&str; 4] {

@@ -6,8 +6,8 @@ use crate::script::*;
 
 pub struct Session {
     sync: TxListSync,
-    /// The counts of a stored state that is not well formed, which the Rust is then never called on.
-    bad: Option<Counts>,
+    /// A stored state that is not well formed, which the Rust is then never called on: its counts, and what LOOK tells.
+    bad: Option<(Counts, Vec<u8>)>,
 }
 
 impl Session {
@@ -40,6 +40,8 @@ impl Session {
         let enabled =
             (0..size).map(|_| (r.u8(), r.u8())).map(|(filled, index)| (filled & 1 == 1).then_some(index)).collect();
         let counts = counts(phase, lists.each_ref().map(Vec::len));
+        let stored = (phase, due, attempt, some, firmware, kind);
+        let bad = refusals::session(&counts).is_err().then(|| (counts, look(stored, &lists)));
         let [wanted, saved, present, refused, owed, fresh, list, known, proprietary] = lists;
         let view = access::View {
             phase,
@@ -58,7 +60,7 @@ impl Session {
             enabled: (flags & 2 != 0).then_some(enabled),
             proprietary: (flags & 4 != 0).then_some(proprietary),
         };
-        Session { sync: access::make(view), bad: refusals::session(&counts).is_err().then_some(counts) }
+        Session { sync: access::make(view), bad }
     }
 
     pub fn phase(&self) -> u8 {
@@ -76,7 +78,7 @@ impl Session {
     /// The counts that the port would hold.
     fn counts(&self) -> Counts {
         let here = || counts(self.phase(), access::lengths(&self.sync));
-        self.bad.unwrap_or_else(here)
+        self.bad.as_ref().map_or_else(here, |bad| bad.0)
     }
 
     pub fn summary(&self) -> Vec<u8> {
@@ -94,6 +96,9 @@ impl Session {
     pub fn step(&mut self, op: u8, body: &[u8]) -> Result<Vec<u8>, u8> {
         let mut r = Reader(body);
         let c = self.counts();
+        if op == LOOK {
+            return Ok(self.bad.as_ref().map_or(Vec::new(), |bad| bad.1.clone()));
+        }
         refusals::session(&c)?;
         match op {
             RESTART => {
@@ -117,6 +122,7 @@ impl Session {
                 }]);
             }
             ABANDON => self.sync.abandon(),
+            IS_DONE => return Ok(vec![self.sync.is_done().into()]),
             DUMP => return Ok(self.dump()),
             _ => return Ok(self.parts()),
         }
@@ -202,4 +208,23 @@ impl Session {
 fn counts(phase: u8, lengths: [usize; 9]) -> Counts {
     let [wanted, saved, present, refused, owed, fresh, list, known, proprietary] = lengths;
     Counts { phase, wanted, saved, present, refused, owed, fresh, list, known, proprietary }
+}
+
+/// The capacities of the nine lists' arrays.
+const CAPACITIES: [usize; 9] = [64, 256, 256, 256, 64, 64, 1024, 1344, 512];
+
+/// All that a session which is not well formed holds: the counts as given, and a sum of each list as far as its array goes.
+fn look(stored: (u8, u64, u8, u8, u16, u8), lists: &[Vec<u32>; 9]) -> Vec<u8> {
+    let (phase, due, attempt, some, firmware, kind) = stored;
+    let mut out = vec![phase];
+    out.extend_from_slice(&due.to_le_bytes());
+    out.extend_from_slice(&[attempt, some & 1]);
+    put_u16(&mut out, if some & 1 == 1 { firmware.into() } else { 0 });
+    out.push(if kind == 2 { 2 } else { kind.min(1) });
+    for (list, capacity) in lists.iter().zip(CAPACITIES) {
+        put_u16(&mut out, list.len());
+        let kept: Vec<u8> = list.iter().take(capacity).flat_map(|pgn| pgn.to_le_bytes()).collect();
+        put_u32(&mut out, sum(&kept));
+    }
+    out
 }
