@@ -116,15 +116,16 @@ prepare() {
     done
 }
 
-# prepare_port DIR: the crates, with a whole quick script of replay_framing for its input.
+# prepare_port DIR: the crates, with the sample for replay_framing's input: rt try takes no more than 1 MiB of output.
 prepare_port() {
     mkdir "$1/port"
     cp -r "$here/../crates.txt" "$here/../crates" "$1/port"
     [ -d "$1/port/crates/replay_framing" ] || return 0
-    "$oracle" script replay_framing quick "$seed" >"$1/port/crates/replay_framing/stdin"
-    "$oracle" run <"$1/port/crates/replay_framing/stdin" >"$1/port/crates/replay_framing/stdout"
+    "$oracle" sample replay_framing "$seed" "$1/port/crates/replay_framing" >/dev/null
     git init --quiet "$1/port"
-    chmod -R u+rwX,go+rX "$1" "$tmp"
+    # without an edit
+    try_port "$1" >"$1/unedited"
+    grep -qx 'NOT FOUND' "$1/unedited" || fail "the port with no edit: $(cat "$1/unedited")"
 }
 
 # build DIR
@@ -139,7 +140,7 @@ compare() {
     rm -rf "${1:?}/bin" "$1"/*.differs
     mkdir "$1/bin"
     for name in $2; do ln -s "../programs/$name" "$1/bin/$name"; done
-    TMPDIR=$1 timeout 300 "$oracle" compare "$1/bin" quick "$seed" >"$1/told" 2>"$1/errors"
+    TMPDIR=$1 timeout 600 "$oracle" compare "$1/bin" quick "$seed" >"$1/told" 2>"$1/errors"
 }
 
 # try_rust DIR PROGRAMS: prints what came of it; 0 if it was found.
@@ -170,7 +171,7 @@ try_port() {
     fi
     byte=$(sed -n '/^FAIL: the native program at -O3 ended, but did not write what is expected/{n;s/^on standard output, at byte \([0-9]*\).*/\1/p}' "$1/told")
     [ -n "$byte" ] || { echo "DOES NOT BUILD"; return 1; }
-    "$oracle" where replay_framing quick "$seed" "$byte"
+    "$oracle" where replay_framing "$seed" "$byte" | cut -c1-60
 }
 
 # worker N: every edit whose place in the list leaves N.

@@ -5,9 +5,9 @@
 //! oracle alone PART SEED SIZE             the Rust by itself: how often each number was answered
 //! oracle script PROGRAM quick|full SEED   > script
 //! oracle run                              < script > transcript
-//! oracle where PROGRAM quick|full SEED BYTE   the part and the call whose answer has that byte of the script's transcript
 //! oracle show FILE                        the calls of a script, with the Rust's answers, as text
 //! oracle sample PROGRAM SEED DIR          DIR/stdin and DIR/stdout, for the program of that name
+//! oracle where PROGRAM SEED BYTE          the part and the call of that sample whose answer has this byte of stdout
 //! oracle list                             < bytes    the listing program's lines
 use oracle::blocks::{BLOCK, Blocks, run};
 use oracle::generate::{PARTS, Part, fill};
@@ -40,11 +40,11 @@ fn script(program: &str, seed: u64, of: fn(&Part) -> usize) -> Blocks {
     blocks
 }
 
-/// The part and the call whose answer has this byte of the transcript of `script`.
-fn place(program: &str, seed: u64, of: fn(&Part) -> usize, byte: usize) -> Option<String> {
+/// The part and the call of a sample whose answer has this byte of the transcript.
+fn place(program: &str, seed: u64, byte: usize) -> Option<String> {
     let mut blocks = Blocks::default();
     for part in PARTS.iter().filter(|p| p.program == program) {
-        fill(part, seed, of(part), &mut blocks);
+        fill(part, seed, part.sample, &mut blocks);
         if byte < blocks.transcript.len() {
             let mut end = 0;
             let call = answers(&blocks.transcript).position(|(_, _, body)| {
@@ -105,9 +105,8 @@ fn main() {
         }
         ["script", program, "quick", seed] => script(program, number(seed), |p| p.quick).script,
         ["script", program, "full", seed] => script(program, number(seed), |p| p.full).script,
-        ["where", program, depth @ ("quick" | "full"), seed, byte] => {
-            let of: fn(&Part) -> usize = if depth == "full" { |p| p.full } else { |p| p.quick };
-            place(program, number(seed), of, number(byte)).expect("a byte of the transcript").into_bytes()
+        ["where", program, seed, byte] => {
+            place(program, number(seed), number(byte)).expect("a byte of the transcript").into_bytes()
         }
         ["run"] => run(&input()),
         ["show", file] => show(&std::fs::read(file).unwrap()).into_bytes(),

@@ -48,7 +48,7 @@ const LENGTHS: [usize; 5] = [0, 1023, 1024, 1025, 1100];
 /// Every phase, with counts and buffers around the limits, on every byte and on every two and three letters. Size 0: a sample.
 pub fn steps(size: usize, each: &mut dyn FnMut(&[u8])) {
     let (counts, lengths) = match size {
-        0 => (&[0, 3, 1024, 1025][..], &[1023, 1024][..]),
+        0 => (&[0, 3, 1023, 1024, 1025][..], &[1023, 1024][..]),
         _ => (&COUNTS[..], &LENGTHS[..]),
     };
     for phase in 0..4 {
