@@ -5,7 +5,7 @@
 # TABLE=FILE writes the list as a table as well.
 set -u -o pipefail
 here=$(cd "$(dirname "$0")" && pwd)
-canboat=${CANBOAT_SRC:-$here/../../shared/docs/src}
+canboat=$(cd "${CANBOAT_SRC:-$here/../../shared/docs/src}" && pwd) || exit 1
 seed=${SEED:-1}
 jobs=${JOBS:-2}
 oracle=$here/target/release/oracle
@@ -140,7 +140,7 @@ compare() {
     rm -rf "${1:?}/bin" "$1"/*.differs
     mkdir "$1/bin"
     for name in $2; do ln -s "../programs/$name" "$1/bin/$name"; done
-    TMPDIR=$1 timeout 600 "$oracle" compare "$1/bin" quick "$seed" >"$1/told" 2>"$1/errors"
+    TMPDIR=$1 timeout 600 "$oracle" compare "$1/bin" quick "$seed" --runs 300 >"$1/told" 2>"$1/errors"
 }
 
 # try_rust DIR PROGRAMS: prints what came of it; 0 if it was found.
@@ -156,7 +156,8 @@ try_rust() {
     for script in "$1"/*.differs; do
         "$1/target/edited/oracle" run <"$script" >"$1/transcript" 2>&1 || panics=', where the edited Rust panics'
     done
-    echo "$part, $calls calls$panics"
+    [ "$calls" -eq 1 ] && calls='1 call' || calls+=' calls'
+    echo "$part, $calls$panics"
 }
 
 # try_port DIR
@@ -209,9 +210,8 @@ for label in "$@"; do
     only+=" $label "
 done
 
-[ -d "$canboat" ] || fail "canboat's sources are not at hand (CANBOAT_SRC)"
 export CANBOAT_SRC=$canboat
-(cd "$here" && cargo build --release --offline --quiet) || fail "the oracle does not build"
+(cd "$here" && cargo build --release --offline --locked --quiet --target-dir target) || fail "the oracle does not build"
 tmp=$(mktemp -d) || exit 1
 trap 'rm -rf "$tmp"' EXIT
 mkdir "$tmp/results" "$tmp/rows"
@@ -225,10 +225,12 @@ fi
 for n in $(seq 0 $((jobs - 1))); do worker "$n" & done
 wait
 
-all=$(find "$tmp/results" -type f | wc -l)
+# an edit without a result, as where its worker failed, counts as not found
+all=0
+for label in "${labels[@]}"; do chosen "$label" && all=$((all + 1)); done
 found=$(find "$tmp/results" -type f -exec grep -lx yes '{}' + | wc -l)
 if [ -n "${TABLE:-}" ]; then
     for i in "${!labels[@]}"; do [ ! -f "$tmp/rows/$i" ] || cat "$tmp/rows/$i"; done >"$TABLE"
 fi
 printf '%s edits, %s found\n' "$all" "$found"
-[ "$all" -gt 0 ] && [ "$all" -eq "$found" ]
+[ "$all" -eq "$found" ]

@@ -29,7 +29,7 @@ fn output(program: &Path, input: &[u8]) -> Vec<u8> {
 }
 
 /// Compares a part; the Rust's side of a batch is made while the program runs on the one before. Prints what was compared.
-fn compare_part(program: &Path, part: &Part, seed: u64, size: usize, first: bool) -> Result<(), String> {
+fn compare_part(program: &Path, part: &Part, seed: u64, size: usize, runs: usize) -> Result<(), String> {
     let start = Instant::now();
     let (mut cases, mut count, mut bytes) = (0, 0, 0);
     let mut waiting: Option<thread::JoinHandle<Result<(), String>>> = None;
@@ -47,7 +47,7 @@ fn compare_part(program: &Path, part: &Part, seed: u64, size: usize, first: bool
             if told == blocks.transcript {
                 return Ok(());
             }
-            Err(format!("{name} seed {seed}:\n{}", difference(&program, &blocks, &told, first)))
+            Err(format!("{name} seed {seed}:\n{}", difference(&program, &blocks, &told, runs)))
         }));
     }
     finish(waiting)?;
@@ -57,8 +57,8 @@ fn compare_part(program: &Path, part: &Part, seed: u64, size: usize, first: bool
     Ok(())
 }
 
-/// The first call that is answered differently and, unless `first`, the smallest calls that still are.
-fn difference(program: &Path, blocks: &Blocks, told: &[u8], first: bool) -> String {
+/// The first call that is answered differently and the smallest calls that still are, as far as so many `runs` find them.
+fn difference(program: &Path, blocks: &Blocks, told: &[u8], runs: usize) -> String {
     let (mut rust, mut port) = (answers(&blocks.transcript), answers(told));
     for (i, block) in blocks.script.chunks(BLOCK).enumerate() {
         for (at, op, body) in calls(block) {
@@ -66,10 +66,10 @@ fn difference(program: &Path, blocks: &Blocks, told: &[u8], first: bool) -> Stri
             if want != have {
                 let (call, want, have) = (text::call(op, body), text::answer(want), text::answer(have));
                 let told = format!("block {i} at {at}: {call}\n  rust {want}\n  port {have}");
-                if first {
+                if runs == 0 {
                     return told;
                 }
-                let small = shrink(program, block);
+                let small = shrink(program, block, runs);
                 let kept = save(program, &small);
                 return format!("{told}\nsmallest calls ({}):\n{}", kept.display(), told_twice(program, &small));
             }
@@ -112,10 +112,10 @@ fn written(calls: &[Call]) -> Vec<u8> {
 }
 
 /// The fewest calls, with the shortest bodies, that the two still answer differently.
-fn shrink(program: &Path, block: &[u8]) -> Vec<u8> {
-    let mut left = 3_000; // runs of the program
+fn shrink(program: &Path, block: &[u8], runs: usize) -> Vec<u8> {
+    let mut left = runs + 1;
     let mut differs = |v: &[Call]| {
-        left -= 1;
+        left = left.saturating_sub(1);
         let script = written(v);
         left > 0 && run(&script) != output(program, &script)
     };
@@ -192,7 +192,7 @@ fn compare_listing(program: &Path, seed: u64, count: usize) -> Result<(), String
 }
 
 /// All parts whose program is there; names the programs that are not. Stops at the first difference.
-pub fn compare(bin: &Path, full: bool, seed: u64, first: bool) -> Result<(), String> {
+pub fn compare(bin: &Path, full: bool, seed: u64, runs: usize) -> Result<(), String> {
     let mut missing: Vec<&str> = Vec::new();
     for part in PARTS {
         let program = bin.join(part.program);
@@ -202,7 +202,7 @@ pub fn compare(bin: &Path, full: bool, seed: u64, first: bool) -> Result<(), Str
             }
             continue;
         }
-        compare_part(&program, part, seed, if full { part.full } else { part.quick }, first)?;
+        compare_part(&program, part, seed, if full { part.full } else { part.quick }, runs)?;
     }
     let program = bin.join("listing");
     if program.exists() {

@@ -1,5 +1,5 @@
-//! oracle compare BIN quick|full [SEED [--first]]   the port's programs in the folder BIN against canboat's Rust; --first: no
-//!                                         search for the smallest calls
+//! oracle compare BIN quick|full [SEED [--first | --runs N]]   the port's programs in the folder BIN against canboat's Rust;
+//!                                         --first, --runs: no search for the smallest calls, or one of so many runs (3,000)
 //! oracle differences                      the inputs of docs/DIFFERENCES.md, run on the Rust
 //! oracle parts                            the generators: program, name, sizes
 //! oracle alone PART SEED SIZE             the Rust by itself: how often each number was answered
@@ -76,9 +76,13 @@ fn main() {
     let words: Vec<&str> = words.iter().map(String::as_str).collect();
     let out: Vec<u8> = match words[..] {
         ["compare", bin, depth @ ("quick" | "full"), ref seed @ ..] => {
-            let first = words.last() == Some(&"--first");
+            let runs = match words[..] {
+                [.., "--first"] => 0,
+                [.., "--runs", runs] => number(runs),
+                _ => 3_000,
+            };
             let seed = seed.first().map_or(1, |s| number(s));
-            if let Err(why) = compare::compare(Path::new(bin), depth == "full", seed, first) {
+            if let Err(why) = compare::compare(Path::new(bin), depth == "full", seed, runs) {
                 println!("DIFFERENT: {why}");
                 std::process::exit(1);
             }
