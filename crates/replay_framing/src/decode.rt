@@ -71,6 +71,7 @@ fn push_slices(
         let r = decoder.push_bytes(lent, &bytes[i..]);
         let event = r.event;
         let used = r.used;
+        decoder = r.decoder;
         if used == 0 {
             return Progress {
                 decoder,
@@ -80,7 +81,6 @@ fn push_slices(
         }
         i += used;
         n = put_event(out, n, i - 1, event, lent);
-        decoder = r.decoder;
     }
     Progress {
         decoder,
@@ -103,12 +103,12 @@ fn push_each(
     while i < bytes.len() {
         let r = decoder.push_byte(lent, bytes[i]);
         let event = r.event;
+        decoder = r.decoder;
         let number = refusal(event);
         if number != 0 {
             return Progress { decoder, n, number };
         }
         n = put_event(out, n, i, event, lent);
-        decoder = r.decoder;
         i += 1;
     }
     Progress {
@@ -148,7 +148,7 @@ fn tell(decoder: Decoder, lent: &[u8], out: &mut [u8], body: usize, n: usize) ->
 // DEC_PUSH and DEC_BYTES.
 pub(crate) fn push(
     op: u8,
-    decoder: Decoder,
+    start: Decoder,
     lent: &mut [u8],
     bytes: &[u8],
     out: &mut [u8],
@@ -157,7 +157,8 @@ pub(crate) fn push(
     ensures { λ r. ⌜ r .len ≡ length (now (lent .entry)) ⌝ }
 {
     let body = open(out, n, op, 0);
-    let r = push_all(op, decoder, lent, bytes, out, body);
+    let r = push_all(op, start, lent, bytes, out, body);
+    let decoder = r.decoder;
     let number = r.number;
     if number != 0 {
         let end = open(out, n, op, number);
@@ -167,8 +168,7 @@ pub(crate) fn push(
             n: end,
         };
     }
-    let after = r.decoder;
-    tell(after, lent, out, body, r.n)
+    tell(decoder, lent, out, body, r.n)
 }
 
 // DEC_LOOK.

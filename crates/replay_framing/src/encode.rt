@@ -1,6 +1,4 @@
 // Calls of the encoder. The lent area is a part of the transcript itself.
-ghost use Prim.Native.Nat.{_≤_};
-ghost use lib.ListN.{length};
 use crate::body::min;
 use crate::body::rest;
 use crate::decode::BLANK;

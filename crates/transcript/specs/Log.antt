@@ -1,4 +1,4 @@
--- A log: a lent text and the place up to which it is written. What does not fit is dropped. Assumes nothing.
+-- A log: a lent text and the place up to which it is written. Sentences in quotes are oracle/FORMAT.md's. Assumes nothing.
 use Prim.Native.Nat.{ℕ, _+_, _-_}
 use mathlib.Core.List.{List, [], _∷_}
 use lib.Dec.{ltb}
@@ -6,10 +6,12 @@ use lib.ListN.{length, set}
 use Rattle.field.specs.Fields.{bytesOf}
 use Rattle.field.specs.Pick.{pick}
 
+-- a transcript, "a file of answers", as far as it is written
 pub record Log : Type 0 where
   pub place : ℕ
   pub text : List ℕ
 
+-- the log of a place and a text
 abbrev pub log : ℕ → List ℕ → Log
 log n text = record { place = n; text = text }
 
@@ -18,7 +20,7 @@ log n text = record { place = n; text = text }
 unfoldable pub put : Log → ℕ → Log
 put l b = pick (ltb (l .place) (length (l .text))) (log (l .place + 1) (set (l .text) (l .place) b)) l
 
--- bytes, one after the other
+-- bytes, one after the other; "Numbers are little-endian": they go in as `bytesOf` gives them
 unfoldable pub puts : Log → List ℕ → Log
 puts l [] = l
 puts l (b ∷ bs) = puts (put l b) bs
@@ -27,6 +29,6 @@ puts l (b ∷ bs) = puts (put l b) bs
 abbrev pub headOf : ℕ → ℕ → List ℕ
 headOf op number = op ∷ number ∷ bytesOf 2 0
 
--- the length of the body that stands from `body` to `end`, in the two bytes before it
+-- the text with the length of the body that stands from `body` to `end` in the two bytes before it ("length u16, body")
 abbrev pub sized : List ℕ → ℕ → ℕ → List ℕ
 sized text body end = puts (log (body - 2) text) (bytesOf 2 (end - body)) .text

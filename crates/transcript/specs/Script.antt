@@ -1,4 +1,4 @@
--- A call's size and the sum of a slice. Assumes nothing.
+-- A call's size and the sum of a slice. Sentences in quotes are oracle/FORMAT.md's. Assumes nothing.
 use Prim.Native.Nat.{ℕ, _+_, _-_, _*_, _%_}
 use mathlib.Core.List.{List, [], _∷_}
 use lib.Dec.{eqb, leb}
@@ -6,15 +6,16 @@ use lib.ListN.{length, getD}
 use Rattle.field.specs.Fields.{field}
 use Rattle.field.specs.Pick.{pick}
 
--- "for each byte b: sum × 65,599 + b + 1, modulo 2,147,483,647"
+-- one byte more in a sum: "for each byte b: sum × 65,599 + b + 1, modulo 2,147,483,647"
 abbrev pub mixed : ℕ → ℕ → ℕ
 mixed t b = (t * 65599 + b + 1) % 2147483647
 
+-- the sum of all bytes, from the number t on
 unfoldable pub sumFrom : ℕ → List ℕ → ℕ
 sumFrom t [] = t
 sumFrom t (b ∷ bs) = sumFrom (mixed t b) bs
 
--- "sum: from 0"
+-- the sum of a slice: "sum: from 0"
 abbrev pub sumOf : List ℕ → ℕ
 sumOf s = sumFrom 0 s
 

@@ -2,7 +2,7 @@
 //!                                         --first, --runs: no search for the smallest calls, or one of so many runs (3,000)
 //! oracle differences                      the inputs of docs/DIFFERENCES.md, run on the Rust
 //! oracle parts                            the generators: program, name, sizes
-//! oracle alone PART SEED SIZE             the Rust by itself: how often each number was answered
+//! oracle alone PART|all SEED [SIZE]       the Rust by itself, at full size: how often each number was answered
 //! oracle script PROGRAM quick|full SEED   > script
 //! oracle run                              < script > transcript
 //! oracle show FILE                        the calls of a script, with the Rust's answers, as text
@@ -103,8 +103,13 @@ fn main() {
             let line = |p: &Part| format!("{:15} {:15} quick {} full {}\n", p.program, p.name, p.quick, p.full);
             PARTS.iter().map(line).collect::<String>().into_bytes()
         }
-        ["alone", name, seed, size] => {
-            alone::alone(part(name), number(seed), number(size));
+        ["alone", "all", seed] => {
+            PARTS.iter().for_each(|p| alone::alone(p, number(seed), p.full));
+            Vec::new()
+        }
+        ["alone", name, seed, ref size @ ..] => {
+            let p = part(name);
+            alone::alone(p, number(seed), size.first().map_or(p.full, |s| number(s)));
             Vec::new()
         }
         ["script", program, "quick", seed] => script(program, number(seed), |p| p.quick).script,

@@ -51,7 +51,9 @@ returns : tie.Need-returns Inv-loop μ-loop
 returns c = search needs
 
 add-i : tie.Need-add-i Inv-loop μ-loop
-add-i c = omega (arith, moved (c .before .before .before), c .before .before .before .before .before .before .before .before .before .before .before .good)
+add-i c =
+    let r = c .before .before .before .before in
+    omega (arith, moved r, r .before .before .before .before .before .before .before .before .good)
 
 sub-put-event : tie.Need-sub-put-event Inv-loop μ-loop
 sub-put-event c = search needs
