@@ -95,7 +95,7 @@ fn stories(each: Each) {
         with(reading([&[7], &[], &[], &[]], None), more, each);
     }
     // old lists: present ones are known and not asked for, refused ones not asked for, saved ones asked for and not saved again
-    let old: [&[u32]; 4] = [&[5, 6, 5, 8, 9], &[6, 6], &[9, 9, 8], &[8, 1]];
+    let old: [&[u32]; 4] = [&[5, 6, 5, 8, 9, 1], &[6, 6], &[9, 9, 8], &[8, 1]];
     let more = vec![
         message(3_001, "49 04"),
         message(3_002, &enabled(DONE_WELL)),
