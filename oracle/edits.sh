@@ -116,13 +116,18 @@ prepare() {
     done
 }
 
-# prepare_port DIR: the crates, with the sample for replay_framing's input: rt try takes no more than 1 MiB of output.
+# prepare_port DIR: the crates, with quick's script for replay_framing's input. rt try takes no more than 1 MiB of output, so the
+# program is made to write a word for each block in place of its transcript.
 prepare_port() {
+    local crate=$1/port/crates/replay_framing
     mkdir "$1/port"
     cp -r "$here/../crates.txt" "$here/../crates" "$1/port"
-    [ -d "$1/port/crates/replay_framing" ] || return 0
-    "$oracle" sample replay_framing "$seed" "$1/port/crates/replay_framing" >/dev/null
     git init --quiet "$1/port"
+    replace "$crate/src/main.rt" '    io::write_all(STDOUT_FILENO, &out[..n])' '    let mut word = [0u8; 4];
+    transcript::put_u32(&mut word, 0, transcript::sum(&out[..n]));
+    io::write_all(STDOUT_FILENO, &word)' || fail "replay_framing's main is not as it was"
+    "$oracle" script replay_framing quick "$seed" >"$crate/stdin"
+    "$oracle" words <"$crate/stdin" >"$crate/stdout"
     # without an edit
     try_port "$1" >"$1/unedited"
     grep -qx 'NOT FOUND' "$1/unedited" || fail "the port with no edit: $(cat "$1/unedited")"
@@ -162,17 +167,25 @@ try_rust() {
 
 # try_port DIR
 try_port() {
-    local byte
-    [ -f "$1/port/crates/replay_framing/src/main.rt" ] || { echo "NOT RUN: replay_framing is not there"; return 1; }
+    local byte run
     command -v rt >/dev/null 2>&1 || { echo "NOT RUN: rt is not there"; return 1; }
-    (cd "$1/port" && timeout 300 rt try replay_framing) >"$1/told" 2>&1
+    (cd "$1/port" && exec timeout 300 rt try replay_framing) >"$1/told" 2>&1 &
+    run=$!
+    # what comes after the run at -O3 is not needed
+    while kill -0 "$run" 2>/dev/null && ! grep -q '^what the run said\|^ok: the native program at -O3 ' "$1/told.o3" 2>/dev/null; do
+        sleep 0.3
+        sed -n '/^[a-zA-Z]*: the native program at -O3 /,$p' "$1/told" >"$1/told.o3"
+    done
+    kill "$run" 2>/dev/null
+    wait "$run" 2>/dev/null
+    rm -f "$1/told.o3"
     if grep -q '^ok: the native program at -O3 ' "$1/told"; then
         echo "NOT FOUND"
         return 1
     fi
     byte=$(sed -n '/^FAIL: the native program at -O3 ended, but did not write what is expected/{n;s/^on standard output, at byte \([0-9]*\).*/\1/p}' "$1/told")
     [ -n "$byte" ] || { echo "DOES NOT BUILD"; return 1; }
-    "$oracle" where replay_framing "$seed" "$byte" | cut -c1-60
+    "$oracle" where replay_framing "$seed" $((byte / 4))
 }
 
 # worker N: every edit whose place in the list leaves N.

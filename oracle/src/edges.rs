@@ -92,22 +92,29 @@ pub fn framing(_: usize, each: Each) {
     // after 5 the rest of the frame is noise, and its DLE ETX gives 1
     let long = [&hex("10 02")[..], &[0x41; 1025], &hex("10 10 10 03")].concat();
     each(&case(&[(DEC_RESET, &[]), (DEC_PUSH, &long), (DEC_RESET, &[]), (DEC_BYTES, &long)]));
+    // 256 payload bytes, their length declared as 0: the lengths differ
+    let wide = [&hex("10 02 A1 00")[..], &[0; 256], &hex("5F 10 03")].concat();
+    each(&case(&[(DEC_RESET, &[]), (DEC_PUSH, &wide), (DEC_RESET, &[]), (DEC_BYTES, &wide)]));
     messages(each);
     each(&case(&[(0x7f, &[1, 2, 3]), (LENT, &[0x7f])]));
 }
 
-/// `encode_ngt_message`: document 01's row, and 6 and 7, each alone, both, neither, at the limit of the payload and of the room.
+/// `encode_ngt_message`: document 01's row, a DLE in each place, and 6 and 7, each alone, both, neither, at the limits.
 fn messages(each: Each) {
-    for (payload, need) in [
-        (vec![], 7),
-        (vec![0x10], 9),
-        (vec![0x41], 8),
-        (vec![0x10; 255], 519),
-        (vec![0; 255], 262),
-        (vec![0; 256], 263),
+    for (command, payload, need) in [
+        (0xA1, vec![], 7),
+        (0xA1, vec![0x10], 9),
+        (0xA1, vec![0x41], 8),
+        // command, length and checksum are DLE
+        (0x10, vec![0x41], 9),
+        (0xA1, vec![0; 16], 24),
+        (0xA1, vec![0x4E], 9),
+        (0xA1, vec![0x10; 255], 519),
+        (0xA1, vec![0; 255], 262),
+        (0xA1, vec![0; 256], 263),
     ] {
         for room in [0, need - 1, need, need + 1] {
-            both(ENCODE, &[&[0xA1][..], &u16s(&[room]), &payload].concat(), each);
+            both(ENCODE, &[&[command][..], &u16s(&[room]), &payload].concat(), each);
         }
     }
 }
@@ -129,6 +136,13 @@ pub fn encode(_: usize, each: Each) {
         for len in [0, 1, 252, 253, 254] {
             both(PCODE, &[&u16s(&[room])[..], &vec![1; len]].concat(), each);
         }
+    }
+    // of a PGN the low 24 bits
+    for pgn in [0x3FFFF, 0x40000, 0xFF_FFFF, 0x0110_0203, u32::MAX] {
+        let (pgn, room) = (pgn.to_le_bytes(), u16s(&[64]));
+        both(N2K_SEND, &[&[6], &pgn[..], &[255], &room, &[9]].concat(), each);
+        both(N2K_RECV, &[&[6], &pgn[..], &[255, 1], &time, &room, &[9]].concat(), each);
+        both(COMMAND, &[&[4], &room[..], &pgn].concat(), each);
     }
     for kind in 0..10u8 {
         for room in 0..32 {
@@ -191,6 +205,14 @@ pub fn records(_: usize, each: Each) {
             }
         }
     }
+    // every byte another
+    let mut all: Vec<u8> = (0..30).map(|i| 0xF0 - 7 * i).collect();
+    for op in [REPLY, STARTUP, RESPONSE] {
+        each(&case(&[(op, &all)]));
+    }
+    all.splice(0..1, [0x93]);
+    all[11] = 12;
+    each(&case(&[(N2K_READ, &all)]));
     // the header's fields, −996, the modes, startup
     let error = hex("11 01 0E 00 78 56 34 12 1C FC FF FF 02 00");
     for len in 0..=error.len() {
@@ -208,6 +230,9 @@ pub fn records(_: usize, each: Each) {
     }
     for mode in 0..9 {
         each(&case(&[(MODE, &[&error[..12], &[mode, 0]].concat())]));
+        each(&case(&[(MODE, &[&error[..12], &[mode, 1]].concat())]));
+        let other = [&[0x10 + mode], &error[1..12], &[2, 0]].concat();
+        each(&case(&[(MODE, &other), (RESPONSE, &other)]));
     }
     for len in 0..8 {
         each(&case(&[(STARTUP, &[&error[..12], &[9; 8][..len]].concat())]));
@@ -238,6 +263,22 @@ fn products(each: Each) {
             content[len.min(31)] = odd;
             each(&case(&[(PROD_RESET, &[]), (PROD_ADD, &reply(2, &content)), (PROD_LOOK, &[])]));
         }
+    }
+    // trimmed at both ends, and only there; after the end nothing counts
+    for odd in [0x08, 0x09, 0x0A, 0x0B, 0x0C, 0x0D, 0x0E, 0x1F, 0x20, 0x21] {
+        let content = text(&[odd, odd, b'a', odd, b'b', odd], 0);
+        let mut after = text(&[b'a', odd, 0xFF], 0);
+        after[20] = 0xE9;
+        each(&case(&[
+            (PROD_RESET, &[]),
+            (PROD_ADD, &reply(2, &content)),
+            (PROD_ADD, &reply(3, &after)),
+            (PROD_LOOK, &[]),
+        ]));
+    }
+    // a part too short on a product that is not whole
+    for (sequence, len) in [(1, 4), (1, 5), (2, 31), (6, 137)] {
+        each(&case(&[(PROD_RESET, &[]), (PROD_ADD, &reply(sequence, &vec![b'7'; len])), (PROD_LOOK, &[])]));
     }
     // all five parts in an order, then what changes nothing: the yes stays
     let x = text(b"x", 0);

@@ -54,8 +54,8 @@ pub const PARTS: &[Part] = &[
     part("replay_session", "largest", Fixed(largest::largest), [1, 1, 0]),
     part("replay_session", "bounds", Fixed(states::bounds), [1, 1, 0]),
     part("replay_session", "orders", Fixed(orders::orders), [2, 3, 1]),
-    part("replay_session", "sessions", Random(session::case), [30_000, 500_000, 20]),
-    part("replay_session", "states", Random(states::case), [60_000, 1_000_000, 20]),
+    part("replay_session", "sessions", Random(session::case), [30_000, 500_000, 12]),
+    part("replay_session", "states", Random(states::case), [60_000, 1_000_000, 14]),
     part("replay_framing", "strings", Fixed(framing::strings), [7, 8, 3]),
     part("replay_framing", "steps", Fixed(framing::steps), [1, 1, 0]),
 ];

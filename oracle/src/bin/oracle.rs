@@ -7,11 +7,12 @@
 //! oracle run                              < script > transcript
 //! oracle show FILE                        the calls of a script, with the Rust's answers, as text
 //! oracle sample PROGRAM SEED DIR          DIR/stdin and DIR/stdout, for the program of that name
-//! oracle where PROGRAM SEED BYTE          the part and the call of that sample whose answer has this byte of stdout
+//! oracle words                            < script > a word for the transcript of each block
+//! oracle where PROGRAM SEED BLOCK         the part that a block of quick's script is of
 //! oracle list                             < bytes    the listing program's lines
 use oracle::blocks::{BLOCK, Blocks, run};
-use oracle::generate::{PARTS, Part, fill};
-use oracle::script::{answers, calls};
+use oracle::generate::{PARTS, Part, batches, fill};
+use oracle::script::{answers, calls, sum};
 use oracle::{alone, compare, differences, run as side, text};
 use std::io::{Read, Write};
 use std::path::Path;
@@ -31,31 +32,37 @@ fn input() -> Vec<u8> {
     all
 }
 
-/// All parts of a program in one script, each with the size that `of` takes.
-fn script(program: &str, seed: u64, of: fn(&Part) -> usize) -> Blocks {
+/// The parts of a program in one script, each with the size that `of` takes: the cases of a comparison. Each part begins a block where
+/// that is told by `begins`.
+fn script(program: &str, seed: u64, of: fn(&Part) -> usize, mut begins: impl FnMut(&Part, usize) -> bool) -> Blocks {
     let mut blocks = Blocks::default();
     for part in PARTS.iter().filter(|p| p.program == program) {
-        fill(part, seed, of(part), &mut blocks);
+        if begins(part, blocks.script.len().div_ceil(BLOCK)) {
+            blocks.next_block();
+        }
+        for (seed, size) in batches(part, seed, of(part)) {
+            fill(part, seed, size, &mut blocks);
+        }
     }
     blocks
 }
 
-/// The part and the call of a sample whose answer has this byte of the transcript.
-fn place(program: &str, seed: u64, byte: usize) -> Option<String> {
-    let mut blocks = Blocks::default();
-    for part in PARTS.iter().filter(|p| p.program == program) {
-        fill(part, seed, part.sample, &mut blocks);
-        if byte < blocks.transcript.len() {
-            let mut end = 0;
-            let call = answers(&blocks.transcript).position(|(_, _, body)| {
-                end += 4 + body.len();
-                byte < end
-            })?;
-            let (_, op, body) = blocks.script.chunks(BLOCK).flat_map(calls).nth(call)?;
-            return Some(format!("{}, {}\n", part.name, text::call(op, body)));
+/// The part that a block of quick's script is of.
+fn part_of(program: &str, seed: u64, block: usize) -> String {
+    let mut found = "no part";
+    let mut begins = |part: &Part, from: usize| {
+        if from <= block {
+            found = part.name;
         }
-    }
-    None
+        from > 0
+    };
+    script(program, seed, |p| p.quick, &mut begins);
+    format!("{found}\n")
+}
+
+/// A word for the transcript of each block of a script.
+fn block_words(script: &[u8]) -> Vec<u8> {
+    script.chunks(BLOCK).flat_map(|block| sum(&run(block)).to_le_bytes()).collect()
 }
 
 fn show(script: &[u8]) -> String {
@@ -112,15 +119,14 @@ fn main() {
             alone::alone(p, number(seed), size.first().map_or(p.full, |s| number(s)));
             Vec::new()
         }
-        ["script", program, "quick", seed] => script(program, number(seed), |p| p.quick).script,
-        ["script", program, "full", seed] => script(program, number(seed), |p| p.full).script,
-        ["where", program, seed, byte] => {
-            place(program, number(seed), number(byte)).expect("a byte of the transcript").into_bytes()
-        }
+        ["script", program, "quick", seed] => script(program, number(seed), |p| p.quick, |_, from| from > 0).script,
+        ["script", program, "full", seed] => script(program, number(seed), |p| p.full, |_, from| from > 0).script,
+        ["where", program, seed, block] => part_of(program, number(seed), number(block)).into_bytes(),
+        ["words"] => block_words(&input()),
         ["run"] => run(&input()),
         ["show", file] => show(&std::fs::read(file).unwrap()).into_bytes(),
         ["sample", program, seed, dir] => {
-            let blocks = script(program, number(seed), |p| p.sample);
+            let blocks = script(program, number(seed), |p| p.sample, |_, _| false);
             std::fs::write(format!("{dir}/stdin"), &blocks.script).unwrap();
             std::fs::write(format!("{dir}/stdout"), &blocks.transcript).unwrap();
             println!("{} cases, {} calls", blocks.cases, blocks.calls);

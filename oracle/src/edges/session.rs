@@ -133,6 +133,90 @@ fn stories(each: Each) {
     with(reading([&[7], &[], &[], &[]], Some(2500)), odd, each);
 }
 
+/// A reply: its byte, sequence and error, then data in hexadecimal.
+fn reply(bem: u8, sequence: u8, error: i32, data: &str) -> Vec<u8> {
+    let mut payload = vec![bem, sequence, 0x0e, 0, 1, 2, 3, 4];
+    payload.extend_from_slice(&error.to_le_bytes());
+    payload.extend_from_slice(&hex(data));
+    payload
+}
+
+fn say(now: u64, payload: &[u8]) -> (u8, Vec<u8>) {
+    (MESSAGE, at(now, 512, payload))
+}
+
+/// What a gateway may say beside the point.
+fn beside(each: Each) {
+    let wanted: [&[u32]; 4] = [&[126_983, 7], &[], &[], &[]];
+    // no mode, too short, an error, then a second one: the first with a mode starts the wait
+    let mut calls = vec![begin(wanted)];
+    for (i, (error, data)) in [(0, "02"), (0, ""), (-7, "FF FF"), (0, "02 00")].into_iter().enumerate() {
+        calls.push(say(100 * i as u64, &reply(0x11, 9, error, data)));
+    }
+    calls.extend([say(5, &[0x11]), tick(2_199), tick(2_200)]);
+    run(calls, each);
+    // Format 1: other sequences, an error, the count byte missing, the last group cut, ends at every length
+    for len in 12..=21 {
+        let listed = &hex(LISTED)[..len];
+        let mut more = vec![say(3_001, listed)];
+        for sequence in [0, 2, 3, 5] {
+            more.push(say(9_000, &reply(0x49, sequence, 0, "01 07 F0 01 00")));
+        }
+        more.extend([
+            say(3_100, &reply(0x49, 1, -5, "09 07 00 00 00 08 00")),
+            tick(13_099),
+            say(3_200, &[0x49]),
+            tick(13_100),
+        ]);
+        with(reading(wanted, None), more, each);
+    }
+    // enable answers: too short, another sequence, other errors, another reply byte
+    for (i, answer) in [
+        reply(0x47, 1, 0, "")[..11].to_vec(),
+        vec![0x47],
+        reply(0x47, 0, 0, ""),
+        reply(0x47, 2, -996, ""),
+        reply(0x47, 1, 1, ""),
+        reply(0x47, 1, -996 + 65_536, ""),
+        reply(0x47, 1, 256, ""),
+        reply(0x46, 1, 0, ""),
+    ]
+    .into_iter()
+    .enumerate()
+    {
+        let mut more =
+            vec![message(3_001, CLOSING), say(3_002 + i as u64, &answer), say(3_100, &reply(0x47, 1, 0, ""))];
+        more.extend([
+            message(3_101, "4B"),
+            message(3_102, "02"),
+            say(3_103, &reply(0x01, 3, -5, "")),
+            message(3_104, "01"),
+        ]);
+        more.extend([say(3_105, &reply(0x4b, 7, -5, "")), (LACKS, vec![7, 0, 0, 0])]);
+        with(reading(wanted, None), more, each);
+    }
+    // Format 2: too short to be a reply, an error of each sign, a second attempt after half the parts, the wait started anew
+    for error in [1, -1, 65_536] {
+        for bem in [0x40, 0x4f] {
+            with(reading(wanted, Some(2690)), vec![say(3_001, &reply(bem, 1, error, "")), tick(13_001)], each);
+        }
+    }
+    let more = vec![
+        message(3_001, SUPPORTED),
+        say(12_999, &reply(0x40, 1, 0, "")[..11]),
+        tick(13_001),
+        message(13_002, ENABLED),
+        message(13_003, MAPS),
+        say(20_000, &reply(0x4f, 1, 0, "")),
+        tick(29_999),
+        tick(30_000),
+        message(30_001, SUPPORTED),
+        message(30_002, MAPS),
+        message(30_003, ENABLED),
+    ];
+    with(reading(wanted, Some(2690)), more, each);
+}
+
 /// Known lists that a third attempt of Format 1 ends with, and attempt numbers that no session has.
 fn odd_states(each: Each) {
     for attempt in [0, 1, 2, 3, 4, 255] {
@@ -151,5 +235,6 @@ fn odd_states(each: Each) {
 
 pub fn session(_: usize, each: Each) {
     stories(each);
+    beside(each);
     odd_states(each);
 }
