@@ -1,6 +1,6 @@
 //! Scripts in blocks of 65,536 bytes, whose transcripts are at most as long.
 use crate::run::Side;
-use crate::script::calls;
+use crate::script::{answer, calls};
 
 pub const BLOCK: usize = 65_536;
 
@@ -44,6 +44,19 @@ impl Blocks {
         self.told = self.transcript.len();
         self.side = Side::default();
     }
+}
+
+/// canboat's transcript of a block, or nothing where it would be longer than a block.
+pub fn run_block(block: &[u8]) -> Option<Vec<u8>> {
+    let (mut side, mut out) = (Side::default(), Vec::new());
+    for (_, op, body) in calls(block) {
+        let told = side.step(op, body);
+        if out.len() + 4 + told.body.len() > BLOCK {
+            return None;
+        }
+        answer(&mut out, op, told.number, &told.body);
+    }
+    Some(out)
 }
 
 /// canboat's transcript of a whole script.

@@ -1,5 +1,5 @@
 //! The port's programs against canboat's Rust.
-use crate::blocks::{BLOCK, Blocks, run};
+use crate::blocks::{BLOCK, Blocks, run, run_block};
 use crate::generate::{PARTS, Part, Rng, batches, fill, streams};
 use crate::run::listing;
 use crate::script::{answers, call, calls};
@@ -117,7 +117,7 @@ fn shrink(program: &Path, block: &[u8], runs: usize) -> Vec<u8> {
     let mut differs = |v: &[Call]| {
         left = left.saturating_sub(1);
         let script = written(v);
-        left > 0 && run(&script) != output(program, &script)
+        left > 0 && run_block(&script).is_some_and(|told| told != output(program, &script))
     };
     let mut kept: Vec<Call> = calls(block).map(|(_, op, body)| (op, body.to_vec())).collect();
     // the shortest beginning
