@@ -1,5 +1,5 @@
 # make run   lists a stored capture of a gateway
-# make test  the gate: proves everything, tries the must-fail edits, runs the programs
+# make test  the gate: proves everything, tries the must-fail edits, runs the programs, compares with canboat's Rust
 .PHONY: run test
 
 run:
