@@ -1,12 +1,11 @@
 //! The edges of document 01, published messages, and every pair of refusals that can hold at once, as fixed cases.
+use crate::generate::Each;
 use crate::script::*;
 
 mod refusals;
 mod session;
 pub use refusals::refusals;
 pub use session::session;
-
-type Each<'a> = &'a mut dyn FnMut(&[u8]);
 
 /// A case of one call after another.
 fn case(calls: &[(u8, &[u8])]) -> Vec<u8> {

@@ -17,9 +17,12 @@ use crate::blocks::Blocks;
 use crate::edges;
 use Kind::{Fixed, Random};
 
+/// Hands each case on.
+pub type Each<'a> = &'a mut dyn FnMut(&[u8]);
+
 pub enum Kind {
     /// All cases, for a size.
-    Fixed(fn(usize, &mut dyn FnMut(&[u8]))),
+    Fixed(fn(usize, Each)),
     /// One case.
     Random(fn(&mut Rng, &mut Vec<u8>)),
 }

@@ -2,7 +2,8 @@
 use crate::script::*;
 
 /// The op's name, and the fields of its body: their names and bytes. What is left is told in hexadecimal.
-const OPS: &[(u8, &str, &[(&str, usize)])] = &[
+type Fields = &'static [(&'static str, usize)];
+const OPS: &[(u8, &str, Fields)] = &[
     (DEC_RESET, "DEC_RESET", &[]),
     (DEC_PUSH, "DEC_PUSH", &[]),
     (DEC_BYTES, "DEC_BYTES", &[]),

@@ -1,4 +1,5 @@
 //! Cases for module 1's decoder.
+use super::Each;
 use super::rng::Rng;
 use crate::engine::format::ngt1::encode_ngt_message;
 use crate::script::*;
@@ -6,7 +7,7 @@ use crate::script::*;
 const LETTERS: [u8; 5] = [0x10, 0x02, 0x03, 0x00, 0xA1];
 
 /// Calls each with every string of so many letters.
-fn every_string(len: usize, each: &mut dyn FnMut(&[u8])) {
+fn every_string(len: usize, each: Each) {
     let mut digits = vec![0; len];
     loop {
         let text: Vec<u8> = digits.iter().map(|&d: &usize| LETTERS[d]).collect();
@@ -20,7 +21,7 @@ fn every_string(len: usize, each: &mut dyn FnMut(&[u8])) {
 }
 
 /// Every string up to `longest` letters, to a new decoder, as a slice and byte by byte.
-pub fn strings(longest: usize, each: &mut dyn FnMut(&[u8])) {
+pub fn strings(longest: usize, each: Each) {
     for len in 0..=longest {
         every_string(len, &mut |text| {
             let mut case = Vec::new();
@@ -46,7 +47,7 @@ const COUNTS: [usize; 13] = [0, 1, 2, 3, 4, 257, 258, 1022, 1023, 1024, 1025, 10
 const LENGTHS: [usize; 5] = [0, 1023, 1024, 1025, 1100];
 
 /// Every phase, with counts and buffers around the limits, on every byte and on every two and three letters. Size 0: a sample.
-pub fn steps(size: usize, each: &mut dyn FnMut(&[u8])) {
+pub fn steps(size: usize, each: Each) {
     let (counts, lengths) = match size {
         0 => (&[0, 3, 1023, 1024, 1025][..], &[1023, 1024][..]),
         _ => (&COUNTS[..], &LENGTHS[..]),

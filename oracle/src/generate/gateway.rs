@@ -78,6 +78,18 @@ pub fn enabled_part(size: u8, first: u8, count: u8, entries: &[u8]) -> Vec<u8> {
     data
 }
 
+/// The replies that tell a list in parts of up to `most` entries; an empty part where it has none.
+pub fn in_parts<T>(list: &[T], most: usize, bem: u8, part: fn(u8, u8, u8, &[T]) -> Vec<u8>) -> Vec<Vec<u8>> {
+    let tell = |first: usize, entries: &[T]| {
+        let data = part(list.len() as u8, first as u8, entries.len() as u8, entries);
+        reply_of(bem, 1, 0, &data)
+    };
+    if list.is_empty() {
+        return vec![tell(0, &[])];
+    }
+    list.chunks(most).enumerate().map(|(i, entries)| tell(i * most, entries)).collect()
+}
+
 /// The data of the Format 2 list's proprietary PGNs.
 pub fn proprietary_part(maps: [&[u8]; 2]) -> Vec<u8> {
     let mut data = vec![0, 0x03, 0x11, 0, 0];
@@ -175,32 +187,15 @@ impl Gateway {
     }
 
     fn supported_list(&mut self, r: &mut Rng) {
-        let size = self.supported.len() as u8;
         let most = 1 + r.below(50);
-        let mut parts = Vec::new();
-        for (i, part) in self.supported.chunks(most).enumerate() {
-            let first = (i * most) as u8;
-            parts.push(reply_of(0x40, 1, 0, &supported_part(size, first, part.len() as u8, part)));
-        }
-        if size == 0 {
-            parts.push(reply_of(0x40, 1, 0, &supported_part(0, 0, 0, &[])));
-        }
+        let parts = in_parts(&self.supported, most, 0x40, supported_part);
         self.send(r, parts);
     }
 
     fn format_2(&mut self, r: &mut Rng) {
-        let size = self.enabled.len() as u8;
         let most = 1 + r.below(50);
-        let mut parts = Vec::new();
-        for (i, part) in self.enabled.chunks(most).enumerate() {
-            let first = (i * most) as u8;
-            parts.push(reply_of(0x4f, 1, 0, &enabled_part(size, first, part.len() as u8, part)));
-        }
-        if size == 0 {
-            parts.push(reply_of(0x4f, 1, 0, &enabled_part(0, 0, 0, &[])));
-        }
-        let maps = proprietary_part([&self.maps[0], &self.maps[1]]);
-        parts.push(reply_of(0x4f, 2, 0, &maps));
+        let mut parts = in_parts(&self.enabled, most, 0x4f, enabled_part);
+        parts.push(reply_of(0x4f, 2, 0, &proprietary_part([&self.maps[0], &self.maps[1]])));
         self.send(r, parts);
     }
 

@@ -1,4 +1,5 @@
 //! Sessions whose lists are as long as they can be, played to their end.
+use super::Each;
 use super::gateway::proprietary_part;
 use super::records::reply_of;
 use super::session::at;
@@ -71,7 +72,7 @@ fn enabling(each: &mut dyn FnMut(Stored)) {
 }
 
 /// Size 0: two of them.
-pub fn largest(size: usize, each: &mut dyn FnMut(&[u8])) {
+pub fn largest(size: usize, each: Each) {
     let maps = reply_of(0x4f, 2, 0, &proprietary_part([&[0xFF; 32], &[0xFF; 32]]));
     let closing = [0x49, 4];
     if size == 0 {

@@ -1,17 +1,9 @@
 //! Format 2 reads: the parts of small lists of every size, in every order, and every way of cutting them.
-use super::gateway::{enabled_part, proprietary_part, supported_part};
+use super::Each;
+use super::gateway::{enabled_part, in_parts, proprietary_part, supported_part};
 use super::records::reply_of;
 use super::session::{at, begin_body};
 use crate::script::*;
-
-/// The places 0 to size cut into parts of `most`; one empty part where there is no place.
-fn cuts(size: usize, most: usize) -> Vec<(usize, usize)> {
-    let mut parts: Vec<_> = (0..size).step_by(most).map(|i| (i, most.min(size - i))).collect();
-    if parts.is_empty() {
-        parts.push((0, 0));
-    }
-    parts
-}
 
 /// Calls each with every order of the parts.
 fn every_order(parts: &mut Vec<Vec<u8>>, from: usize, each: &mut dyn FnMut(&[Vec<u8>])) {
@@ -26,7 +18,7 @@ fn every_order(parts: &mut Vec<Vec<u8>>, from: usize, each: &mut dyn FnMut(&[Vec
 }
 
 /// Lists of up to `largest` places, cut into parts of up to that many, in every order, each part told and then, at the end, told again.
-pub fn orders(largest: usize, each: &mut dyn FnMut(&[u8])) {
+pub fn orders(largest: usize, each: Each) {
     odd_parts(each);
     // an index is not its place, and the last stands twice: the first match counts
     let supported: Vec<(u8, u32)> = [(0, 130_300), (4, 130_301), (4, 130_302)].to_vec();
@@ -34,15 +26,8 @@ pub fn orders(largest: usize, each: &mut dyn FnMut(&[u8])) {
     for s in 0..=largest {
         for e in 0..=largest {
             for most in 1..=largest {
-                let mut parts = Vec::new();
-                for (at, n) in cuts(s, most) {
-                    let data = supported_part(s as u8, at as u8, n as u8, &supported[at..at + n]);
-                    parts.push(reply_of(0x40, 1, 0, &data));
-                }
-                for (at, n) in cuts(e, most) {
-                    let data = enabled_part(e as u8, at as u8, n as u8, &enabled[at..at + n]);
-                    parts.push(reply_of(0x4f, 1, 0, &data));
-                }
+                let mut parts = in_parts(&supported[..s], most, 0x40, supported_part);
+                parts.extend(in_parts(&enabled[..e], most, 0x4f, enabled_part));
                 parts.push(reply_of(0x4f, 2, 0, &proprietary_part([&[1, 0x80], &[2]])));
                 every_order(&mut parts, 0, &mut |order| each(&read(order)));
             }
@@ -52,7 +37,7 @@ pub fn orders(largest: usize, each: &mut dyn FnMut(&[u8])) {
 
 /// Parts that do not fit together: a size that changes, places at and past the end, a count that is not so, a cut entry, overlaps,
 /// other variants, too little data.
-fn odd_parts(each: &mut dyn FnMut(&[u8])) {
+fn odd_parts(each: Each) {
     let entry = |index: u8| (index, 130_300 + u32::from(index));
     let supported = |size, first, count, n: u8| {
         let entries: Vec<_> = (0..n).map(|i| entry(first + i)).collect();

@@ -1,4 +1,5 @@
 //! Whole stored sessions, well formed and not, reachable and not.
+use super::Each;
 use super::gateway::{enabled_part, listed, pgn, pgns, proprietary_part, supported_part};
 use super::records::reply_of;
 use super::rng::Rng;
@@ -65,7 +66,7 @@ impl Stored {
 }
 
 /// Every call on the state that SET_RAW puts in, each from that state anew, then SET.
-pub fn every_call(state: &Stored, each: &mut dyn FnMut(&[u8])) {
+pub fn every_call(state: &Stored, each: Each) {
     let body = state.body();
     let enable = reply_of(0x47, 1, 0, &[]);
     for (op, arguments) in [
@@ -93,7 +94,7 @@ pub fn every_call(state: &Stored, each: &mut dyn FnMut(&[u8])) {
 }
 
 /// Every bound of "State is not well formed when", at the bound and one above, in every phase. Size 0: enabling's sums, one call.
-pub fn bounds(size: usize, each: &mut dyn FnMut(&[u8])) {
+pub fn bounds(size: usize, each: Each) {
     if size == 0 {
         return sums(4, &mut |state| {
             let mut case = Vec::new();

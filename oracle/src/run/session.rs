@@ -71,10 +71,6 @@ impl Session {
         access::due(&self.sync)
     }
 
-    pub fn is_bad(&self) -> bool {
-        self.bad.is_some()
-    }
-
     /// The counts that the port would hold.
     fn counts(&self) -> Counts {
         let here = || counts(self.phase(), access::lengths(&self.sync));
