@@ -1,6 +1,6 @@
 #!/usr/bin/env bash
 # edits.sh [LABEL..]: wrong versions, each of which `compare quick` must find: edits of canboat's Rust, of the refusals and of the
-# port's framing (edits/*.txt; their form and what each does: EDITS.md). A line for each; the last one is 'N edits, N found'.
+# port's framing (edits/*.txt; their form and what each does: README.md). A line for each; the last one is 'N edits, N found'.
 # Exit 1 if one is not found, does not apply or does not build. SEED=n takes other cases, JOBS=n so many at a time (2),
 # TABLE=FILE writes the list as a table as well.
 set -u -o pipefail
