@@ -228,8 +228,10 @@ pub fn records(_: usize, each: Each) {
         }
     }
     for mode in 0..9 {
-        each(&case(&[(MODE, &[&error[..12], &[mode, 0]].concat())]));
-        each(&case(&[(MODE, &[&error[..12], &[mode, 1]].concat())]));
+        for high in [0, 1] {
+            let told = [&error[..12], &[mode, high]].concat();
+            each(&case(&[(MODE, &told), (RESPONSE, &told)]));
+        }
         let other = [&[0x10 + mode], &error[1..12], &[2, 0]].concat();
         each(&case(&[(MODE, &other), (RESPONSE, &other)]));
     }

@@ -40,9 +40,13 @@ fn response(payload: &[u8]) -> Vec<u8> {
     out.extend_from_slice(&head[..12]);
     put_u16(&mut out, b.data.len());
     out.extend_from_slice(b.data);
-    let mode = b.operating_mode().map(OperatingMode::code);
-    out.push(mode.is_some().into());
-    put_u16(&mut out, mode.unwrap_or(0).into());
+    let mode = b.operating_mode();
+    out.push(match mode {
+        None => 0,
+        Some(OperatingMode::Other(_)) => 2,
+        Some(_) => 1,
+    });
+    put_u16(&mut out, mode.map_or(0, OperatingMode::code).into());
     let (number, status) = match startup(&b) {
         Ok(status) => (0, status),
         Err(number) => (number, vec![0; 6]),
