@@ -3,7 +3,7 @@
 
 A change is a number one up or down, a comparison or operator turned, a condition negated, or a statement left out. Each changed copy
 is built and compared with the unchanged Rust by `oracle compare .. quick`; what quick does not find is printed, to be looked at: a
-gap of the generators, or a change that no call can show. Changes that do not compile are counted apart. Takes some seven minutes.
+gap of the generators, or a change that no call can show. Changes that do not compile are counted apart. Takes some six minutes.
 """
 import argparse
 import concurrent.futures
