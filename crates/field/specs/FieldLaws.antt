@@ -11,7 +11,7 @@ use lib.Dec.{ltb}
 use lib.IntN.{ℤ, pos, negsuc}
 use lib.ListN.{length, getD, take, drop, length-take, List·getD-eq-default, List·getD-append}
 use lib.Seq.{getD-append-add, getD-take, getD-drop, drop-cons}
-use Rattle.field.specs.Fields.{Bytes, field, bytesOf, signed32}
+use Rattle.field.specs.Fields.{Bytes, field, bytesOf, signed32, unsigned32, Signed32}
 
 -- Bytes
 
@@ -188,18 +188,24 @@ pub signed32-high : (x : ℕ) → 2147483648 ≤ x → signed32 x ≡ negsuc (42
 unfolding signed32
 signed32-high x h = simp (le-ltb x 2147483648 h)
 
--- the pattern of a signed number
-abbrev pattern : ℤ → ℕ
-pattern (pos n) = n
-pattern (negsuc n) = 4294967295 - n
-
-pattern-signed32 : (x : ℕ) → x < 4294967296 → pattern (signed32 x) ≡ x
-pattern-signed32 x h = go (ltb x 2147483648) refl
+-- read back: a number's bits, and the number of some bits
+pub unsigned32-signed32 : (x : ℕ) → x < 4294967296 → unsigned32 (signed32 x) ≡ x
+unsigned32-signed32 x h = go (ltb x 2147483648) refl
   where
-    go : (t : Bool) → ltb x 2147483648 ≡ t → pattern (signed32 x) ≡ x
-    go true e = ap pattern (signed32-low x (ltb-true x 2147483648 e))
-    go false e = let p : 4294967295 - (4294967295 - x) ≡ x = omega arith in ap pattern (signed32-high x (ltb-false x 2147483648 e)) ∙ p
+    go : (t : Bool) → ltb x 2147483648 ≡ t → unsigned32 (signed32 x) ≡ x
+    go true e = ap unsigned32 (signed32-low x (ltb-true x 2147483648 e))
+    go false e = let p : 4294967295 - (4294967295 - x) ≡ x = omega arith in ap unsigned32 (signed32-high x (ltb-false x 2147483648 e)) ∙ p
+
+pub signed32-unsigned32 : (z : ℤ) → Signed32 z → signed32 (unsigned32 z) ≡ z
+signed32-unsigned32 (pos n) h = signed32-low n h
+signed32-unsigned32 (negsuc n) h =
+    let p : 4294967295 - (4294967295 - n) ≡ n = omega arith in
+    signed32-high (4294967295 - n) (omega arith) ∙ ap negsuc p
+
+pub unsigned32-lt : (z : ℤ) → Signed32 z → unsigned32 z < 4294967296
+unsigned32-lt (pos n) h = omega arith
+unsigned32-lt (negsuc n) h = omega arith
 
 -- two different patterns are two different numbers
 pub signed32-injective : (x y : ℕ) → x < 4294967296 → y < 4294967296 → signed32 x ≡ signed32 y → x ≡ y
-signed32-injective x y h g e = sym (pattern-signed32 x h) ∙ ap pattern e ∙ pattern-signed32 y g
+signed32-injective x y h g e = sym (unsigned32-signed32 x h) ∙ ap unsigned32 e ∙ unsigned32-signed32 y g

@@ -23,3 +23,13 @@ bytesOf (suc k) n = n % 256 ∷ bytesOf k (n / 256)
 -- 32 bits as a signed number, two's complement; `negsuc n` is -(n + 1)
 unfoldable pub signed32 : ℕ → ℤ
 signed32 x = pick (ltb x 2147483648) (pos x) (negsuc (4294967295 - x))
+
+-- the 32 bits of a signed number: the number itself, or 4294967296 less its distance below 0
+abbrev pub unsigned32 : ℤ → ℕ
+unsigned32 (pos n) = n
+unsigned32 (negsuc n) = 4294967295 - n
+
+-- the signed numbers that 32 bits hold, from -2147483648 to 2147483647
+abbrev pub Signed32 : ℤ → Type 0
+Signed32 (pos n) = n < 2147483648
+Signed32 (negsuc n) = n < 2147483648
