@@ -1,12 +1,12 @@
 -- Laws of replies, case by case. Assumes nothing.
 use Prim.Native.Nat.{ℕ, _≤_, _<_}
 use native.Mathlib.Omega.{arith}
-use mathlib.Core.Path.{_≡_, ap, ap₂, _∙_}
+use mathlib.Core.Path.{_≡_, ap, ap₂, sym, _∙_}
 use mathlib.Core.List.{List, [], _∷_}
 use borrow.Author.Tests.{lt-ltb, le-ltb}
 use denote.Ref.{now}
-use lib.IntN.{negsuc}
-use lib.ListN.{length, drop-of-length-le}
+use lib.IntN.{ℤ, negsuc}
+use lib.ListN.{length, getD, drop-of-length-le}
 use Rattle.field.specs.Fields.{field, signed32}
 use Rattle.replies.specs.declared.bem.BemHeader.{BemHeader}
 use Rattle.replies.specs.declared.bem.BemResponse.{BemResponse}
@@ -19,6 +19,12 @@ header-short s h = rw (lt-ltb (length s) 12 h)
 pub header-read : (s : List ℕ) → 12 ≤ length s → headerOf s ≡ read s
 unfolding headerOf
 header-read s h = rw (le-ltb (length s) 12 h)
+
+-- the numbers read one by one
+pub header-made : (s : List ℕ) {m n : ℕ} {e : ℤ} → 12 ≤ length s → m ≡ field s 2 2 → n ≡ field s 4 4 → e ≡ signed32 (field s 8 4)
+    → record { number = 0; bem = getD s 0 0; sequence = getD s 1 0; «model_id» = m; serial = n; error = e } ≡ headerOf s
+header-made s h a b c =
+    (λ i. record { number = 0; bem = getD s 0 0; sequence = getD s 1 0; «model_id» = a i; serial = b i; error = c i }) ∙ sym (header-read s h)
 
 -- "the data are then empty"
 pub data-short : (s : List ℕ) → length s < 12 → dataOf s ≡ []
