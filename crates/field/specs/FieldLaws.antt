@@ -202,6 +202,14 @@ signed32-unsigned32 (negsuc n) h =
     let p : 4294967295 - (4294967295 - n) ≡ n = omega arith in
     signed32-high (4294967295 - n) (omega arith) ∙ ap negsuc p
 
+-- 32 bits hold a number in range, and a number in range has 32 bits
+pub signed32-fits : (x : ℕ) → x < 4294967296 → Signed32 (signed32 x)
+signed32-fits x h = go (ltb x 2147483648) refl
+  where
+    go : (t : Bool) → ltb x 2147483648 ≡ t → Signed32 (signed32 x)
+    go true e = let l = ltb-true x 2147483648 e in rw (signed32-low x l) l
+    go false e = let l = ltb-false x 2147483648 e in rw (signed32-high x l) (omega arith)
+
 pub unsigned32-lt : (z : ℤ) → Signed32 z → unsigned32 z < 4294967296
 unsigned32-lt (pos n) h = omega arith
 unsigned32-lt (negsuc n) h = omega arith

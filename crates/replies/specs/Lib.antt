@@ -8,3 +8,6 @@ pub mod Layout
 pub mod ModeLaws
 pub mod BemLaws
 pub mod StatusLaws
+-- Theorems.
+pub mod LayoutLaws
+pub mod Delivered
