@@ -1,12 +1,13 @@
 -- Laws of replies, case by case. Assumes nothing.
-use Prim.Native.Nat.{ℕ, _≤_, _<_}
+use Prim.Native.Nat.{ℕ, _-_, _≤_, _<_}
 use native.Mathlib.Omega.{arith}
 use mathlib.Core.Path.{_≡_, ap, ap₂, sym, _∙_}
 use mathlib.Core.List.{List, [], _∷_}
 use borrow.Author.Tests.{lt-ltb, le-ltb}
 use denote.Ref.{now}
 use lib.IntN.{ℤ, negsuc}
-use lib.ListN.{length, getD, drop-of-length-le}
+use lib.ListN.{length, getD, take, drop, length-drop, drop-of-length-le}
+use lib.Seq.{take-all}
 use Rattle.field.specs.Fields.{field, signed32}
 use Rattle.replies.specs.declared.bem.BemHeader.{BemHeader}
 use Rattle.replies.specs.declared.bem.BemResponse.{BemResponse}
@@ -30,6 +31,11 @@ header-made s h a b c =
 pub data-short : (s : List ℕ) → length s < 12 → dataOf s ≡ []
 unfolding dataOf
 data-short s h = drop-of-length-le s {i = 12} (omega arith)
+
+-- the part of the payload from byte 12 to its end
+pub data-part : (s : List ℕ) → take (length s - 12) (drop 12 s) ≡ dataOf s
+unfolding dataOf
+data-part s = take-all (length s - 12) (drop 12 s) (simp length-drop (omega arith))
 
 -- a response is its header and its data
 pub response-is : {h : BemHeader} {d : List ℕ} (s : List ℕ) → h ≡ headerOf s → d ≡ dataOf s → responds h d ≡ responseOf s

@@ -5,12 +5,12 @@ use native.Mathlib.Nat.{mod-eq-of-lt}
 use native.Mathlib.Omega.{arith}
 use mathlib.Core.Path.{_≡_, refl, ap, sym, _∙_}
 use mathlib.Core.List.{List, [], _∷_, _++_}
-use lib.ListN.{length, getD, take, drop, take-append-drop}
+use lib.ListN.{length, getD, drop, take-append-drop}
 use lib.Seq.{drop-cons, drop-drop}
 use Rattle.field.specs.Fields.{Bytes, field, bytesOf, signed32, unsigned32, Signed32}
 use Rattle.field.specs.FieldLaws.{byte-lt, bytes-append, bytes-drop, field-lt, field-bytesOf, bytesOf-bytes, bytesOf-field, signed32-unsigned32, unsigned32-signed32, unsigned32-lt, signed32-fits}
 use Rattle.replies.specs.declared.bem.BemHeader.{BemHeader}
-use Rattle.replies.specs.Bem.{read, headerOf, dataOf, Response, responds, responseOf}
+use Rattle.replies.specs.Bem.{read, dataOf, Response, responds, responseOf}
 use Rattle.replies.specs.BemLaws.{header-read}
 use Rattle.replies.specs.Layout.{layout, InRange, Whole}
 
@@ -36,9 +36,9 @@ layout-whole r h =
     bytes-append (bytesOf 2 (r .model)) (bytesOf 4 (r .serial) ++ (bytesOf 4 error ++ r .content)) (bytesOf-bytes 2 (r .model)) from-serial in
     record {
       bytes =
-      bytes-append (r .bem ∷ r .sequence ∷ []) (bytesOf 2 (r .model) ++ (bytesOf 4 (r .serial) ++ (bytesOf 4 error ++ r .content)))
-      (pair-bytes (r .bem) (r .sequence) (h .bem-fits) (h .sequence-fits))
-      from-model;
+          bytes-append (r .bem ∷ r .sequence ∷ []) (bytesOf 2 (r .model) ++ (bytesOf 4 (r .serial) ++ (bytesOf 4 error ++ r .content)))
+          (pair-bytes (r .bem) (r .sequence) (h .bem-fits) (h .sequence-fits))
+          from-model;
       long = omega (arith, layout-length r);
     }
 

@@ -11,3 +11,4 @@ pub mod StatusLaws
 -- Theorems.
 pub mod LayoutLaws
 pub mod Delivered
+pub mod Examples

@@ -21,6 +21,10 @@ pub mode-named : (code : ℕ) → 1 ≤ code → code ≤ 6 → modeOf code ≡ 
 unfolding modeOf
 mode-named code h k = rw (le-leb 1 code h, le-leb code 6 k)
 
+-- the same from a match on the code
+pub mode-is : {code : ℕ} (n : ℕ) → 1 ≤ n → n ≤ 6 → code ≡ n → named n ≡ modeOf code
+mode-is n h k e = rw e (sym (mode-named n h k))
+
 pub mode-none : (code : ℕ) → code ≤ 0 → modeOf code ≡ other code
 unfolding modeOf
 mode-none code h = rw (lt-leb 1 code (omega arith))

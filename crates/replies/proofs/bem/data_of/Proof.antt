@@ -1,12 +1,7 @@
 -- `replies::data_of` meets its contract. Assumes nothing.
-use Prim.Native.Nat.{_-_}
-use native.Mathlib.Omega.{arith}
 use mathlib.Core.Path.{sym}
 use borrow.Author.Needs.{needs}
-use lib.ListN.{length, drop, length-drop}
-use lib.Seq.{take-all}
-use Rattle.replies.specs.Bem.{dataOf}
-use Rattle.replies.specs.BemLaws.{data-short}
+use Rattle.replies.specs.BemLaws.{data-short, data-part}
 use Rattle.replies.proofs.bem.data_of.Statement.{statement}
 use Rattle.replies.proofs.bem.data_of.Tie as tie
 
@@ -32,8 +27,7 @@ part-result-end-2 : tie.Need-part-result-end-2
 part-result-end-2 c = search needs
 
 returns-2 : tie.Need-returns-2
-unfolding dataOf
-returns-2 c = let s = c .before .before .args .payload .now in take-all (length s - 12) (drop 12 s) (simp length-drop (omega arith))
+returns-2 c = data-part (c .before .before .args .payload .now)
 
 pub data-of-spec : {M : Type 1} → statement M
 data-of-spec =

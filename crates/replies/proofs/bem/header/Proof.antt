@@ -1,11 +1,11 @@
 -- `replies::header` meets its contract. Assumes nothing.
 use mathlib.Core.Path.{sym, _∙_}
 use borrow.Author.Needs.{needs}
-use mir.Syntax.{w32}
-use mir.Facts.{toZ-ofZ}
 use Rattle.replies.specs.BemLaws.{header-short, header-made}
 use Rattle.replies.proofs.bem.header.Statement.{statement}
 use Rattle.replies.proofs.bem.header.Tie as tie
+use mir.Syntax.{w32}
+use mir.Facts.{toZ-ofZ}
 
 returns : tie.Need-returns
 returns c = sym (header-short (c .before .before .args .payload .now) (c .if1 .taken))

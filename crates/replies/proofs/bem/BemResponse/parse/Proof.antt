@@ -30,7 +30,7 @@ use denote.Builtin.{u8, u16, u32, i32}
 use denote.Ref.{RefT, NamedLft, now}
 use denote.Signature.{plain, namedLft}
 use denote.Slice.{sliceTy, sliceVal, ShrSlice, slice-vals, shr-slice-tells, shr-slice-lawful, shr-slice-copy}
-use denote.Steps.{only, owned, peeks, facts, heard, nothing}
+use denote.Steps.{only, owned, peeks, heard, nothing}
 use denote.Struct.Laws as LL
 use denote.Struct.Rest.{own-shut}
 use denote.Triple.Statement.{Contract, Triple}

@@ -1,33 +1,27 @@
 -- `replies::OperatingMode::from_code` meets its contract. Assumes nothing.
-use mathlib.Core.Path.{refl, sym}
-use Rattle.replies.specs.Modes.{modeOf}
-use Rattle.replies.specs.ModeLaws.{mode-other}
+use native.Mathlib.Omega.{arith}
+use mathlib.Core.Path.{sym}
+use Rattle.replies.specs.ModeLaws.{mode-is, mode-other}
 use Rattle.replies.proofs.mode.OperatingMode.from_code.Statement.{statement}
 use Rattle.replies.proofs.mode.OperatingMode.from_code.Tie as tie
 
 returns : tie.Need-returns
-unfolding modeOf
-returns c = rw (c .match .keys1)
+returns c = mode-is 1 (omega arith) (omega arith) (c .match .keys1)
 
 returns-2 : tie.Need-returns-2
-unfolding modeOf
-returns-2 c = rw (c .match .keys2)
+returns-2 c = mode-is 2 (omega arith) (omega arith) (c .match .keys2)
 
 returns-3 : tie.Need-returns-3
-unfolding modeOf
-returns-3 c = rw (c .match .keys3)
+returns-3 c = mode-is 3 (omega arith) (omega arith) (c .match .keys3)
 
 returns-4 : tie.Need-returns-4
-unfolding modeOf
-returns-4 c = rw (c .match .keys4)
+returns-4 c = mode-is 4 (omega arith) (omega arith) (c .match .keys4)
 
 returns-5 : tie.Need-returns-5
-unfolding modeOf
-returns-5 c = rw (c .match .keys5)
+returns-5 c = mode-is 5 (omega arith) (omega arith) (c .match .keys5)
 
 returns-6 : tie.Need-returns-6
-unfolding modeOf
-returns-6 c = rw (c .match .keys6)
+returns-6 c = mode-is 6 (omega arith) (omega arith) (c .match .keys6)
 
 returns-7 : tie.Need-returns-7
 returns-7 c =
