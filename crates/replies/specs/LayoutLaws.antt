@@ -104,3 +104,8 @@ layout-read s w =
     ∙ ap front (part s 2 2 (w .bytes) (omega arith))
     ∙ ap {B = List ℕ} (λ (l : List ℕ). getD s 0 0 ∷ l) (sym (drop-cons s 1 0 (omega arith)))
     ∙ sym (drop-cons s 0 0 (omega arith))
+
+-- No other reading: one that takes every reply back from its layout reads each payload as `responseOf` does
+
+pub only-reading : (f : List ℕ → Response) → ((r : Response) → InRange r → f (layout r) ≡ r) → (s : List ℕ) → Whole s → f s ≡ responseOf s
+only-reading f h s w = ap f (sym (layout-read s w)) ∙ h (responseOf s) (read-in-range s w)

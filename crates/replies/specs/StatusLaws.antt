@@ -12,10 +12,11 @@ pub startup-short : (d : List ℕ) → length d < 3 → startupOf d ≡ status 8
 unfolding startupOf
 startup-short d h = rw (lt-ltb (length d) 3 h)
 
-pub startup-byte : (d : List ℕ) → 3 ≤ length d → length d < 6 → startupOf d ≡ status 0 (field d 0 2) (getD d 2 0)
+-- the numbers read one by one: three to five bytes; six or more
+pub startup-byte : (d : List ℕ) {v : ℕ} → 3 ≤ length d → length d < 6 → v ≡ field d 0 2 → status 0 v (getD d 2 0) ≡ startupOf d
 unfolding startupOf
-startup-byte d h k = rw (le-ltb (length d) 3 h, lt-ltb (length d) 6 k)
+startup-byte d h k e = rw (le-ltb (length d) 3 h, lt-ltb (length d) 6 k, e)
 
-pub startup-whole : (d : List ℕ) → 6 ≤ length d → startupOf d ≡ status 0 (field d 0 2) (field d 2 4)
+pub startup-whole : (d : List ℕ) {v r : ℕ} → 6 ≤ length d → v ≡ field d 0 2 → r ≡ field d 2 4 → status 0 v r ≡ startupOf d
 unfolding startupOf
-startup-whole d h = rw (le-ltb (length d) 3 (omega arith), le-ltb (length d) 6 h)
+startup-whole d h e f = rw (le-ltb (length d) 3 (omega arith), le-ltb (length d) 6 h, e, f)

@@ -1,10 +1,7 @@
 -- `replies::startup_status` meets its contract. Assumes nothing.
-use Prim.Native.Nat.{ℕ}
 use native.Mathlib.Omega.{arith}
-use mathlib.Core.Path.{ap, ap₂, sym, _∙_}
+use mathlib.Core.Path.{sym}
 use borrow.Author.Needs.{needs}
-use lib.ListN.{getD}
-use Rattle.replies.specs.Status.{status}
 use Rattle.replies.specs.StatusLaws.{startup-short, startup-byte, startup-whole}
 use Rattle.replies.proofs.startup.startup_status.Statement.{statement}
 use Rattle.replies.proofs.startup.startup_status.Tie as tie
@@ -25,7 +22,7 @@ returns-2 : tie.Need-returns-2
 returns-2 c =
     let few = c .before .before in
     let d = few .before .before .before .args .«data» .now in
-    ap (λ (v : ℕ). status 0 v (getD d 2 0)) (c .before .u16-at .ensures) ∙ sym (startup-byte d (few .before .if1 .left) (few .if2 .taken))
+    startup-byte d (few .before .if1 .left) (few .if2 .taken) (c .before .u16-at .ensures)
 
 u16-at-requires-2 : tie.Need-u16-at-requires-2
 u16-at-requires-2 c κs = search needs
@@ -36,7 +33,7 @@ u32-at-requires c κs = search needs
 returns-3 : tie.Need-returns-3
 returns-3 c =
     let many = c .before .before in
-    ap₂ (status 0) (c .before .u16-at2 .ensures) (c .u32-at .ensures) ∙ sym (startup-whole (many .before .before .before .args .«data» .now) (many .if2 .left))
+    startup-whole (many .before .before .before .args .«data» .now) (many .if2 .left) (c .before .u16-at2 .ensures) (c .u32-at .ensures)
 
 pub startup-status-spec : {M : Type 1} → statement M
 startup-status-spec =
