@@ -58,3 +58,13 @@ last-that-counts = refl
 pub zeros-before : firmwareOf (48 ∷ 48 ∷ 48 ∷ 48 ∷ 48 ∷ 48 ∷ 48 ∷ 50 ∷ 46 ∷ 53 ∷ []) ≡ some 2500
 unfolding firmwareOf lastOf wordValue counts wordsFrom beforeDot afterDot allDigits decimalFrom
 zeros-before = refl
+
+-- ".5"
+pub digits-before : firmwareOf (46 ∷ 53 ∷ []) ≡ none
+unfolding firmwareOf lastOf wordValue counts wordsFrom beforeDot afterDot allDigits decimalFrom
+digits-before = refl
+
+-- "5."
+pub digits-after : firmwareOf (53 ∷ 46 ∷ []) ≡ none
+unfolding firmwareOf lastOf wordValue counts wordsFrom beforeDot afterDot allDigits decimalFrom
+digits-after = refl

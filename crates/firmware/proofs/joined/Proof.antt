@@ -1,4 +1,5 @@
 -- `firmware::joined` meets its contract. Assumes nothing.
+use native.Mathlib.Omega.{arith}
 use borrow.Author.Tests.{lt-ltb, le-ltb}
 use borrow.Author.Needs.{needs}
 use Rattle.firmware.proofs.joined.Statement.{statement}
@@ -11,7 +12,7 @@ add-total : tie.Need-add-total
 add-total c = search needs
 
 cast-t6 : tie.Need-cast-t6
-cast-t6 c = search needs
+cast-t6 c = omega (arith, c .if1 .taken)
 
 returns : tie.Need-returns
 returns c = rw (lt-ltb _ 65536 (c .if1 .taken))
