@@ -1,26 +1,20 @@
+-- `transcript::put_count` meets its contract. Assumes nothing.
 use mathlib.Core.Path.{ap, _∙_}
+use borrow.Author.Needs.{needs}
 use Rattle.field.specs.FieldLaws.{bytesOf-mod}
 use Rattle.transcript.specs.Log.{log, puts}
-use borrow.Author.Needs.{needs}
 use Rattle.transcript.proofs.put_count.Statement.{statement}
 use Rattle.transcript.proofs.put_count.Tie as tie
-use Rattle.transcript.proofs.put_count.Reads as reads
-use Rattle.transcript.proofs.put_count.Lts as lts
-use Rattle.transcript.proofs.put_u16.Reads as put-u16-reads
 
--- src/lib.rt:83:21
 cast-put-u16 : tie.Need-cast-put-u16
 cast-put-u16 c = search needs
 
--- src/lib.rt:83:5
 put-u16-requires : tie.Need-put-u16-requires
 put-u16-requires c κs = search needs
 
--- src/lib.rt:80:1
 same-length : tie.Need-same-length
 same-length c = search needs
 
--- src/lib.rt:80:1
 returns : tie.Need-returns
 returns c =
     let w = c .before .before in

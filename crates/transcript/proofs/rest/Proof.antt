@@ -1,38 +1,31 @@
+-- `transcript::rest` meets its contract. Assumes nothing.
 use Prim.Native.Nat.{_-_, _≤_}
 use native.Mathlib.Omega.{arith}
 use mathlib.Core.Path.{sym}
+use borrow.Author.Needs.{needs}
 use lib.ListN.{length, drop, length-drop, drop-of-length-le}
 use lib.Seq.{take-all}
-use borrow.Author.Needs.{needs}
 use Rattle.transcript.proofs.rest.Statement.{statement}
 use Rattle.transcript.proofs.rest.Tie as tie
-use Rattle.transcript.proofs.rest.Reads as reads
-use Rattle.transcript.proofs.rest.Lts as lts
 
--- src/lib.rt:158:9
 slice-aggregate-result : tie.Need-slice-aggregate-result
 slice-aggregate-result c = search needs
 
--- src/lib.rt:158:9
 returns : tie.Need-returns
 returns c =
     let a = c .before .before .args in
     let h : length (a .s .now) ≤ a .at = search needs in
     sym (drop-of-length-le (a .s .now) h)
 
--- src/lib.rt:160:5
 sub-result : tie.Need-sub-result
 sub-result c = search needs
 
--- src/lib.rt:160:5
 part-result-start : tie.Need-part-result-start
 part-result-start c = search needs
 
--- src/lib.rt:160:5
 part-result-end : tie.Need-part-result-end
 part-result-end c = search needs
 
--- src/lib.rt:154:1
 returns-2 : tie.Need-returns-2
 returns-2 c =
     let a = c .before .before .args in

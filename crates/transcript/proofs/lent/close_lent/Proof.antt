@@ -1,25 +1,18 @@
-use Rattle.transcript.specs.LentLaws.{closed-lent}
+-- `transcript::lent::close_lent` meets its contract. Assumes nothing.
 use borrow.Author.Needs.{needs}
+use Rattle.transcript.specs.LentLaws.{closed-lent}
 use Rattle.transcript.proofs.lent.close_lent.Statement.{statement}
 use Rattle.transcript.proofs.lent.close_lent.Tie as tie
-use Rattle.transcript.proofs.lent.close_lent.Reads as reads
-use Rattle.transcript.proofs.lent.close_lent.Lts as lts
-use Rattle.transcript.proofs.close.Reads as close-reads
-use Rattle.transcript.proofs.open.Reads as open-reads
 
--- src/lent.rt:65:5
 open-requires : tie.Need-open-requires
 open-requires c κs = search needs
 
--- src/lent.rt:66:5
 close-requires : tie.Need-close-requires
 close-requires c κs = search needs
 
--- src/lent.rt:62:1
 same-length : tie.Need-same-length
 same-length c = search needs
 
--- src/lent.rt:62:1
 returns : tie.Need-returns
 returns c =
     let k = c .before .before in

@@ -1,39 +1,28 @@
+-- `transcript::lent::open_area` meets its contract. Assumes nothing.
 use Prim.Native.Nat.{ℕ}
 use mathlib.Core.Path.{ap}
+use borrow.Author.Needs.{needs}
 use Rattle.field.specs.Fields.{bytesOf}
 use Rattle.transcript.specs.Log.{log}
 use Rattle.transcript.specs.LentLaws.{opened-said}
-use borrow.Author.Needs.{needs}
 use Rattle.transcript.proofs.lent.open_area.Statement.{statement}
 use Rattle.transcript.proofs.lent.open_area.Tie as tie
-use Rattle.transcript.proofs.lent.open_area.Reads as reads
-use Rattle.transcript.proofs.lent.open_area.Lts as lts
-use Rattle.transcript.proofs.fill.Reads as fill-reads
-use Rattle.transcript.proofs.min.Reads as min-reads
-use Rattle.transcript.proofs.open.Reads as open-reads
-use Rattle.transcript.proofs.put_count.Reads as put-count-reads
 
--- src/lent.rt:20:9
 min-requires : tie.Need-min-requires
 min-requires c κs = search needs
 
--- src/lent.rt:21:9
 open-requires : tie.Need-open-requires
 open-requires c κs = search needs
 
--- src/lent.rt:22:9
 put-count-requires : tie.Need-put-count-requires
 put-count-requires c κs = search needs
 
--- src/lent.rt:23:9
 fill-requires : tie.Need-fill-requires
 fill-requires c κs = search needs
 
--- src/lent.rt:17:1
 same-length : tie.Need-same-length
 same-length c = search needs
 
--- src/lent.rt:17:1
 returns : tie.Need-returns
 returns c =
     let f = c .before .before in

@@ -1,34 +1,25 @@
+-- `transcript::lent::open_lent` meets its contract. Assumes nothing.
 use Prim.Native.Nat.{ℕ}
 use mathlib.Core.List.{[]}
 use mathlib.Core.Path.{refl, ap}
+use borrow.Author.Needs.{needs}
 use Rattle.transcript.specs.Log.{log, puts}
 use Rattle.transcript.specs.LentLaws.{opened-said}
-use borrow.Author.Needs.{needs}
 use Rattle.transcript.proofs.lent.open_lent.Statement.{statement}
 use Rattle.transcript.proofs.lent.open_lent.Tie as tie
-use Rattle.transcript.proofs.lent.open_lent.Reads as reads
-use Rattle.transcript.proofs.lent.open_lent.Lts as lts
-use Rattle.transcript.proofs.fill.Reads as fill-reads
-use Rattle.transcript.proofs.min.Reads as min-reads
-use Rattle.transcript.proofs.open.Reads as open-reads
 
--- src/lent.rt:49:9
 min-requires : tie.Need-min-requires
 min-requires c κs = search needs
 
--- src/lent.rt:50:9
 open-requires : tie.Need-open-requires
 open-requires c κs = search needs
 
--- src/lent.rt:51:9
 fill-requires : tie.Need-fill-requires
 fill-requires c κs = search needs
 
--- src/lent.rt:46:1
 same-length : tie.Need-same-length
 same-length c = search needs
 
--- src/lent.rt:46:1
 returns : tie.Need-returns
 unfolding puts
 returns c =
