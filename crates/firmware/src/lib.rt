@@ -2,7 +2,7 @@
 // `firmware_of` takes any bytes; it refuses none.
 ghost use mathlib.Core.Path.{_≡_};
 ghost use Prim.Native.Nat.{_+_, _*_, _<_};
-ghost use mathlib.Core.Option.{Option, none, some};
+ghost use mathlib.Core.Option.{none, some};
 ghost use lib.Dec.{ltb};
 ghost use lib.ListN.{length};
 ghost use Rattle.field.specs.Pick.{pick};
