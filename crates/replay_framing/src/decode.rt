@@ -2,19 +2,20 @@
 ghost use Prim.Native.Nat.{_≤_};
 ghost use lib.ListN.{length};
 ghost use mathlib.Core.Path.{_≡_};
-use crate::body::min;
 use crate::body::phase_of;
-use crate::body::rest;
 use crate::event::put_event;
 use crate::event::put_state;
 use field::u16_at;
 use framing::Decoder;
 use framing::Event;
 use framing::MAX_COLLECT;
+use transcript::BLANK;
 use transcript::close;
 use transcript::fill;
+use transcript::min;
 use transcript::open;
 use transcript::put_bytes;
+use transcript::rest;
 
 pub(crate) const DEC_RESET: u8 = 0x10;
 
@@ -30,9 +31,6 @@ pub(crate) const DEC_BYTES: u8 = 0x16;
 
 // The most that a lent buffer can have.
 pub(crate) const MOST: usize = 1100;
-
-// What a lent buffer holds before the first call.
-pub(crate) const BLANK: u8 = 0xEE;
 
 // The decoder and the length of its lent buffer after a call, and the place after the answer.
 pub(crate) struct Turn {

@@ -4,14 +4,9 @@ use framing::Decoder;
 use framing::Event;
 use transcript::put;
 use transcript::put_bytes;
-use transcript::put_u16;
+use transcript::put_count;
 use transcript::put_u32;
 use transcript::sum;
-
-// The low 16 bits of a number.
-pub(crate) fn put_count(out: &mut [u8], n: usize, x: usize) -> usize {
-    put_u16(out, n, (x % 65536) as u16)
-}
 
 // Phase, count, and the sum of the lent buffer.
 pub(crate) fn put_state(out: &mut [u8], n: usize, decoder: Decoder, lent: &[u8]) -> usize {

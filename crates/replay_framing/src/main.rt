@@ -18,7 +18,7 @@ fn block() -> bool {
     }
     let mut out = io::large_buffer();
     let end = replay::replay(&script[..got], &mut out);
-    let n = body::min(end, 65536);
+    let n = transcript::min(end, 65536);
     io::write_all(STDOUT_FILENO, &out[..n])
 }
 

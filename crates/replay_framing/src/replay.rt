@@ -1,8 +1,6 @@
 // The calls of a block, one after the other.
 ghost use Prim.Native.Nat.{_≤_};
 ghost use lib.ListN.{length};
-use crate::body::rest;
-use crate::decode::BLANK;
 use crate::decode::DEC_BYTES;
 use crate::decode::DEC_LOOK;
 use crate::decode::DEC_PUSH;
@@ -23,8 +21,10 @@ use crate::encode::lent_area;
 use field::byte_at;
 use framing::Decoder;
 use framing::MAX_COLLECT;
+use transcript::BLANK;
 use transcript::call_size;
 use transcript::open;
+use transcript::rest;
 
 // A call that is none of the decoder's: 254 where there is no such op.
 fn other(op: u8, body: &[u8], out: &mut [u8], n: usize) -> usize {

@@ -127,7 +127,7 @@ puts-eight l m k x e g =
 
 -- the length of a body, from what the calls in `close` ensure
 pub sized-said : (text out : List ℕ) (r a d body end : ℕ) → a ≡ body - 2 → d ≡ end - body
-    → log r out ≡ puts (log a text) (bytesOf 2 (d % 65536)) → out ≡ sized text body end
+    → log r out ≡ puts (log a text) (bytesOf 2 d) → out ≡ sized text body end
 sized-said text out r a d body end p q e =
-    ap (λ (l : Log). l .text) (e ∙ ap (puts (log a text)) (bytesOf-mod 2 d))
+    ap (λ (l : Log). l .text) e
     ∙ ap₂ (λ (x y : ℕ). puts (log x text) (bytesOf 2 y) .text) p q

@@ -1,8 +1,8 @@
 // What replay programs share: reading a script of calls and writing a transcript of answers (oracle/FORMAT.md).
 // A transcript is a lent slice and the place up to which it is written. No function here requires anything: what does not fit is dropped.
-ghost use Prim.Native.Nat.{_-_, _%_, _<_};
+ghost use Prim.Native.Nat.{_-_, _%_, _<_, min};
 ghost use mathlib.Core.Path.{_≡_};
-ghost use lib.ListN.{replicate};
+ghost use lib.ListN.{drop, replicate};
 ghost use Rattle.field.specs.Fields.{bytesOf};
 ghost use Rattle.transcript.specs.Log.{log, put, puts, headOf, sized};
 ghost use Rattle.transcript.specs.Script.{mixed, sumOf, callSize};
@@ -10,6 +10,26 @@ use field::byte_at;
 use field::le16;
 use field::le32;
 use field::u16_at;
+
+mod lent; // lent.rt: answers that hold a lent area
+
+pub use lent::close_area;
+pub use lent::close_lent;
+pub use lent::open_area;
+pub use lent::open_lent;
+
+// What a lent buffer or area holds before the first call.
+pub const BLANK: u8 = 0xEE;
+
+// Where an answer that holds a lent area stands in a transcript: its op, the place of its head, the place after the head,
+// the area's first place and the place after its last.
+pub struct Area {
+    pub op: u8,
+    pub head: usize,
+    pub body: usize,
+    pub start: usize,
+    pub end: usize,
+}
 
 // Each writer returns the place after what it put.
 
@@ -56,6 +76,13 @@ pub fn put_u16(out: &mut [u8], n: usize, x: u16) -> usize
     put_bytes(out, n, &le16(x))
 }
 
+// The low 16 bits of a number.
+pub fn put_count(out: &mut [u8], n: usize, x: usize) -> usize
+    ensures { λ r. ⌜ log r (now (out .exit)) ≡ puts (log n (now (out .entry))) (bytesOf 2 x) ⌝ }
+{
+    put_u16(out, n, (x % 65536) as u16)
+}
+
 pub fn put_u32(out: &mut [u8], n: usize, x: u32) -> usize
     ensures { λ r. ⌜ log r (now (out .exit)) ≡ puts (log n (now (out .entry))) (bytesOf 4 x) ⌝ }
 {
@@ -86,7 +113,7 @@ fn less(a: usize, b: usize) -> usize
 pub fn close(out: &mut [u8], body: usize, end: usize)
     ensures { λ _. ⌜ now (out .exit) ≡ sized (now (out .entry)) body end ⌝ }
 {
-    put_u16(out, less(body, 2), (less(end, body) % 65536) as u16);
+    put_count(out, less(body, 2), less(end, body));
 }
 
 fn long(b: u8) -> u64
@@ -115,6 +142,22 @@ pub fn sum(s: &[u8]) -> u32
         i += 1;
     }
     (t % 2147483647) as u32
+}
+
+pub fn min(a: usize, b: usize) -> usize
+    ensures { λ r. ⌜ r ≡ min a b ⌝ }
+{
+    if a < b { a } else { b }
+}
+
+// All bytes from a place on.
+pub fn rest(s: &[u8], at: usize) -> &[u8]
+    ensures { λ r. ⌜ now r ≡ drop at (now (s .entry)) ⌝ }
+{
+    if s.len() < at {
+        return &s[..0];
+    }
+    &s[at..]
 }
 
 // The size of the call at a place of a script, or 0 where no whole call is left.

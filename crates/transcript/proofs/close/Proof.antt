@@ -10,11 +10,8 @@ less-requires c κs = search needs
 less-requires-2 : tie.Need-less-requires-2
 less-requires-2 c κs = search needs
 
-cast-put-u16 : tie.Need-cast-put-u16
-cast-put-u16 c = search needs
-
-put-u16-requires : tie.Need-put-u16-requires
-put-u16-requires c κs = search needs
+put-count-requires : tie.Need-put-count-requires
+put-count-requires c κs = search needs
 
 same-length : tie.Need-same-length
 same-length c = search needs
@@ -24,9 +21,8 @@ returns c =
     let w = c .before .before in
     let m = w .before in
     let f = m .before in
-    sized-said _ _ (w .put-u16 .result) (f .less .result) (m .less2 .result) _ _ (f .less .ensures) (m .less2 .ensures) (w .put-u16 .ensures)
+    sized-said _ _ (w .put-count .result) (f .less .result) (m .less2 .result) _ _ (f .less .ensures) (m .less2 .ensures) (w .put-count .ensures)
 
 pub close-spec : {M : Type 1} → statement M
 close-spec =
-    tie.close
-    (tie.spec less-requires less-requires-2 cast-put-u16 put-u16-requires same-length returns)
+    tie.close (tie.spec less-requires less-requires-2 put-count-requires same-length returns)
