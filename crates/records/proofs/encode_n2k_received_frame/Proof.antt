@@ -3,78 +3,58 @@ use Prim.Native.Nat.{ℕ}
 use native.Mathlib.Omega.{arith}
 use mathlib.Core.Path.{ap₂, sym, _∙_}
 use mathlib.Core.List.{List, [], _∷_, _++_}
+use borrow.Author.Needs.{needs}
 use lib.ListN.{length, getD}
 use Rattle.field.specs.Fields.{bytesOf}
 use Rattle.framing.specs.Encode.{encoded}
 use Rattle.framing.specs.EncodeLaws.{within-6, within-encoded}
 use Rattle.records.specs.Record.{receivedHead, receivedEncoded}
-use borrow.Author.Needs.{needs}
 use Rattle.records.proofs.encode_n2k_received_frame.Statement.{statement}
 use Rattle.records.proofs.encode_n2k_received_frame.Tie as tie
-use Rattle.records.proofs.encode_n2k_received_frame.Reads as reads
-use Rattle.records.proofs.encode_n2k_received_frame.Lts as lts
-use Rattle.field.proofs.le24.Reads as le24-reads
-use Rattle.field.proofs.le32.Reads as le32-reads
-use Rattle.framing.proofs.encode_ngt_parts.Reads as encode-ngt-parts-reads
 
--- src/lib.rt:57:9
 returns : tie.Need-returns
 unfolding receivedEncoded
 returns c = sym (within-6 _ _ _ _ _ (c .if1 .taken))
 
--- src/lib.rt:59:15
 le24-requires : tie.Need-le24-requires
 le24-requires c κs = search needs
 
--- src/lib.rt:60:16
 le32-requires : tie.Need-le32-requires
 le32-requires c κs = search needs
 
--- src/lib.rt:63:9
 array-read-t13 : tie.Need-array-read-t13
 array-read-t13 c = search needs
 
--- src/lib.rt:64:9
 array-read-t16 : tie.Need-array-read-t16
 array-read-t16 c = search needs
 
--- src/lib.rt:65:9
 array-read-t19 : tie.Need-array-read-t19
 array-read-t19 c = search needs
 
--- src/lib.rt:68:9
 array-read-t22 : tie.Need-array-read-t22
 array-read-t22 c = search needs
 
--- src/lib.rt:69:9
 array-read-t25 : tie.Need-array-read-t25
 array-read-t25 c = search needs
 
--- src/lib.rt:70:9
 array-read-t28 : tie.Need-array-read-t28
 array-read-t28 c = search needs
 
--- src/lib.rt:71:9
 array-read-t31 : tie.Need-array-read-t31
 array-read-t31 c = search needs
 
--- src/lib.rt:72:9
 cast-t32 : tie.Need-cast-t32
 cast-t32 c = search needs
 
--- src/lib.rt:74:49
 slice-aggregate-encode-ngt-parts : tie.Need-slice-aggregate-encode-ngt-parts
 slice-aggregate-encode-ngt-parts c = search needs
 
--- src/lib.rt:74:5
 encode-ngt-parts-requires : tie.Need-encode-ngt-parts-requires
 encode-ngt-parts-requires c κs = search needs
 
--- src/lib.rt:53:1
 same-length : tie.Need-same-length
 same-length c = search needs
 
--- src/lib.rt:53:1
 returns-2 : tie.Need-returns-2
 unfolding receivedEncoded bytesOf
 returns-2 c =

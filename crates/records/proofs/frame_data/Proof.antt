@@ -2,16 +2,13 @@
 use Prim.Native.Nat.{ℕ, _+_, _-_, _≤_}
 use native.Mathlib.Omega.{arith}
 use mathlib.Core.Path.{_≡_, ap, sym, _∙_}
+use borrow.Author.Needs.{needs}
 use lib.ListN.{length, take, drop}
 use Rattle.records.specs.declared.FrameRead.{FrameRead}
 use Rattle.records.specs.Record.{frameRead, frameData}
 use Rattle.records.specs.RecordLaws.{frame-none, frame-inside}
-use borrow.Author.Needs.{needs}
 use Rattle.records.proofs.frame_data.Statement.{statement}
 use Rattle.records.proofs.frame_data.Tie as tie
-use Rattle.records.proofs.frame_data.Reads as reads
-use Rattle.records.proofs.frame_data.Lts as lts
-use Rattle.records.proofs.to_raw_frame.Reads as to-raw-frame-reads
 
 -- the data stand in the payload
 inside : (c : tie.Else1) → let r = c .before .before in 11 + r .to-raw-frame .result .len ≤ length (r .before .before .args .payload .now)
@@ -22,23 +19,18 @@ inside c =
     let h = frame-inside (a .command) (a .payload .now) (sym (ap (λ (x : FrameRead). x .number) e) ∙ c .if1 .left) in
     omega (arith, h, ap (λ (x : FrameRead). x .len) e)
 
--- src/lib.rt:126:9
 to-raw-frame-requires : tie.Need-to-raw-frame-requires
 to-raw-frame-requires c κs = search needs
 
--- src/lib.rt:128:16
 sub-result : tie.Need-sub-result
 sub-result c = search needs
 
--- src/lib.rt:128:16
 part-result-start : tie.Need-part-result-start
 part-result-start c = search needs
 
--- src/lib.rt:128:16
 part-result-end : tie.Need-part-result-end
 part-result-end c = search needs
 
--- src/lib.rt:128:9
 returns : tie.Need-returns
 unfolding frameData
 returns c =
@@ -48,23 +40,18 @@ returns c =
     let n : frameRead (a .command) (a .payload .now) .number ≡ 0 → ⊥ = λ q. t .if1 .taken (ap (λ (x : FrameRead). x .number) (r .to-raw-frame .ensures) ∙ q) in
     sym (ap (λ (k : ℕ). take k (drop 11 (a .payload .now))) (frame-none (a .command) (a .payload .now) n))
 
--- src/lib.rt:130:15
 add-end : tie.Need-add-end
 add-end c = omega (arith, inside (c .before))
 
--- src/lib.rt:131:5
 sub-result-2 : tie.Need-sub-result-2
 sub-result-2 c = search needs
 
--- src/lib.rt:131:5
 part-result-start-2 : tie.Need-part-result-start-2
 part-result-start-2 c = search needs
 
--- src/lib.rt:131:5
 part-result-end-2 : tie.Need-part-result-end-2
 part-result-end-2 c = omega (arith, inside (c .before))
 
--- src/lib.rt:123:1
 returns-2 : tie.Need-returns-2
 unfolding frameData
 returns-2 c =

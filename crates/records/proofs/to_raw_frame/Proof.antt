@@ -2,51 +2,36 @@
 use Prim.Native.Nat.{_-_, _≤_, _<_}
 use native.Mathlib.Omega.{arith}
 use mathlib.Core.Path.{sym, _∙_}
+use borrow.Author.Needs.{needs}
 use lib.ListN.{length, getD}
 use Rattle.records.specs.RecordLaws.{frame-9, frame-8, frame-10, frame-taken}
-use borrow.Author.Needs.{needs}
 use Rattle.records.proofs.to_raw_frame.Statement.{statement}
 use Rattle.records.proofs.to_raw_frame.Tie as tie
-use Rattle.records.proofs.to_raw_frame.Reads as reads
-use Rattle.records.proofs.to_raw_frame.Lts as lts
-use Rattle.field.proofs.byte_at.Reads as byte-at-reads
-use Rattle.field.proofs.u24_at.Reads as u24-at-reads
-use Rattle.field.proofs.u32_at.Reads as u32-at-reads
-use Rattle.records.proofs.refused.Reads as refused-reads
 
--- src/lib.rt:99:9
 refused-requires : tie.Need-refused-requires
 refused-requires c κs = search needs
 
--- src/lib.rt:99:9
 returns : tie.Need-returns
 returns c = c .refused .ensures ∙ sym (frame-9 _ _ (c .before .if1 .taken))
 
--- src/lib.rt:102:9
 refused-requires-2 : tie.Need-refused-requires-2
 refused-requires-2 c κs = search needs
 
--- src/lib.rt:102:9
 returns-2 : tie.Need-returns-2
 returns-2 c = c .refused2 .ensures ∙ sym (frame-8 _ _ (c .before .before .if1 .left) (c .before .if2 .taken))
 
--- src/lib.rt:104:15
 byte-at-requires : tie.Need-byte-at-requires
 byte-at-requires c κs = search needs
 
--- src/lib.rt:104:15
 cast-len : tie.Need-cast-len
 cast-len c = search needs
 
--- src/lib.rt:105:8
 sub-if3 : tie.Need-sub-if3
 sub-if3 c = search needs
 
--- src/lib.rt:106:9
 refused-requires-3 : tie.Need-refused-requires-3
 refused-requires-3 c κs = search needs
 
--- src/lib.rt:106:9
 returns-3 : tie.Need-returns-3
 returns-3 c =
     let t = c .before in
@@ -56,27 +41,21 @@ returns-3 c =
     let k : length s - 11 < getD s 10 0 = omega (arith, t .if3 .taken, b .byte-at .ensures) in
     c .refused3 .ensures ∙ sym (frame-10 _ s (e .before .if1 .left) (e .if2 .left) k)
 
--- src/lib.rt:109:20
 u32-at-requires : tie.Need-u32-at-requires
 u32-at-requires c κs = search needs
 
--- src/lib.rt:110:15
 byte-at-requires-2 : tie.Need-byte-at-requires-2
 byte-at-requires-2 c κs = search needs
 
--- src/lib.rt:111:14
 u24-at-requires : tie.Need-u24-at-requires
 u24-at-requires c κs = search needs
 
--- src/lib.rt:112:14
 byte-at-requires-3 : tie.Need-byte-at-requires-3
 byte-at-requires-3 c κs = search needs
 
--- src/lib.rt:113:14
 byte-at-requires-4 : tie.Need-byte-at-requires-4
 byte-at-requires-4 c κs = search needs
 
--- src/lib.rt:95:1
 returns-4 : tie.Need-returns-4
 returns-4 c =
     let d = c .before in

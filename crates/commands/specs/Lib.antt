@@ -1,0 +1,3 @@
+-- The commands' bytes.
+pub mod Command
+pub mod CommandLaws
