@@ -1,6 +1,6 @@
 -- What `encode_ngt_message` answers and leaves in the output. Assumes nothing.
 use Prim.Native.Nat.{ℕ}
-use mathlib.Core.List.{List}
+use mathlib.Core.List.{List, _++_}
 use lib.ListN.{length}
 use lib.Dec.{ltb}
 use Rattle.field.specs.Pick.{pick}
@@ -27,3 +27,7 @@ encoded cmd payload out =
     pick (ltb 255 (length payload)) (refused 6 out)
     (pick (ltb (length out) (length (frame cmd payload))) (refused 7 out)
     (wrote (length (frame cmd payload)) (dles (body cmd payload)) (written (frame cmd payload) out)))
+
+-- an encoder whose payload is a head and then data, at most `limit` of them: "payload or data over its limit" is 6
+unfoldable pub within : ℕ → ℕ → List ℕ → List ℕ → List ℕ → Answer
+within limit cmd head rest out = pick (ltb limit (length rest)) (refused 6 out) (encoded cmd (head ++ rest) out)

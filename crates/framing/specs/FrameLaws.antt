@@ -139,6 +139,12 @@ checksum-wrapped cmd payload {head} {rest} {total} {check} h r t k f =
     t ∙ rw (h, r, ← add-mod, add-assoc) in
     wrapped-negative ((cmd + (length payload + sum payload)) % 256) check (below-256 _) f (rw e at k)
 
+-- the sum of a payload in two parts, as a wrapping sum gives it
+pub sum-parts : (xs ys : List ℕ) {a b c : ℕ} → a ≡ sum xs % 256 → b ≡ sum ys % 256 → c ≡ (a + b) % 256 → c ≡ sum (xs ++ ys) % 256
+sum-parts xs ys {a} {b} {c} p q r =
+    let e : (a + b) % 256 ≡ (sum xs + sum ys) % 256 = rw (p, q, ← add-mod) in
+    r ∙ e ∙ ap (λ (n : ℕ). n % 256) (sym (sum-append xs ys))
+
 -- the same by the DLEs of the parts
 pub wire-dles : (cmd len : ℕ) (payload : List ℕ) (check : ℕ)
     → length (wire cmd len payload check) ≡ 7 + length payload + dles payload + (dles (cmd ∷ []) + dles (len ∷ []) + dles (check ∷ []))

@@ -6,7 +6,7 @@ use super::STX;
 use super::checksum_of;
 ghost use mathlib.Core.Path.{_≡_};
 ghost use Prim.Native.Nat.{_+_, _≤_};
-ghost use mathlib.Core.List.{_∷_, []};
+ghost use mathlib.Core.List.{_∷_, [], _++_};
 ghost use lib.Dec.{leb};
 ghost use lib.ListN.{length};
 ghost use Rattle.field.specs.Puts.{Puts};
@@ -62,16 +62,17 @@ fn write_all_stuffed(out: &mut [u8], at: usize, s: &[u8]) -> usize
     next
 }
 
-// Writes a frame of these parts from the start of out, and returns its length.
-fn write_frame(out: &mut [u8], cmd: u8, len: u8, payload: &[u8], check: u8) -> usize
-    requires { ⌜ length (wire cmd len (now payload) check) ≤ length (now out) ⌝ }
-    ensures { λ r. ⌜ Puts (now (out .entry)) 0 (wire cmd len (now (payload .entry)) check) (now (out .exit)) r ⌝ }
+// Writes a frame of these parts from the start of out, its payload head and then rest, and returns its length.
+fn write_frame(out: &mut [u8], cmd: u8, len: u8, head: &[u8], rest: &[u8], check: u8) -> usize
+    requires { ⌜ length (wire cmd len (now head ++ now rest) check) ≤ length (now out) ⌝ }
+    ensures { λ r. ⌜ Puts (now (out .entry)) 0 (wire cmd len (now (head .entry) ++ now (rest .entry)) check) (now (out .exit)) r ⌝ }
 {
     out[0] = DLE;
     out[1] = STX;
     let mut at = write_stuffed(out, 2, cmd);
     at = write_stuffed(out, at, len);
-    at = write_all_stuffed(out, at, payload);
+    at = write_all_stuffed(out, at, head);
+    at = write_all_stuffed(out, at, rest);
     at = write_stuffed(out, at, check);
     out[at] = DLE;
     out[at + 1] = ETX;
@@ -79,51 +80,72 @@ fn write_frame(out: &mut [u8], cmd: u8, len: u8, payload: &[u8], check: u8) -> u
 }
 
 // The byte that brings the sum of a body to 0 modulo 256.
-fn checksum_byte(cmd: u8, len: u8, payload: &[u8]) -> u8
-    requires { ⌜ len ≡ length (now payload) ⌝ }
-    ensures { λ r. ⌜ r ≡ checksum (covered cmd (now (payload .entry))) ⌝ }
+fn checksum_byte(cmd: u8, len: u8, head: &[u8], rest: &[u8]) -> u8
+    requires { ⌜ len ≡ length (now head ++ now rest) ⌝ }
+    ensures { λ r. ⌜ r ≡ checksum (covered cmd (now (head .entry) ++ now (rest .entry))) ⌝ }
 {
-    let head = std::num::wrapping_add_u8(cmd, len);
-    let total = std::num::wrapping_add_u8(head, checksum_of(payload));
+    let first = std::num::wrapping_add_u8(cmd, len);
+    let payload = std::num::wrapping_add_u8(checksum_of(head), checksum_of(rest));
+    let total = std::num::wrapping_add_u8(first, payload);
     std::num::wrapping_sub_u8(0, total)
 }
 
 // How many bytes a frame of these parts takes.
-fn wire_len(cmd: u8, len: u8, payload: &[u8], check: u8) -> usize
-    requires { ⌜ length (now payload) ≤ 255 ⌝ }
-    ensures { λ r. ⌜ r ≡ length (wire cmd len (now (payload .entry)) check) ⌝ }
+fn wire_len(cmd: u8, len: u8, head: &[u8], rest: &[u8], check: u8) -> usize
+    requires { ⌜ length (now head) + length (now rest) ≤ 255 ⌝ }
+    ensures { λ r. ⌜ r ≡ length (wire cmd len (now (head .entry) ++ now (rest .entry)) check) ⌝ }
 {
     let ends = extra(cmd) + extra(len) + extra(check);
-    7 + payload.len() + count_dles(payload) + ends as usize
+    let doubled = count_dles(head) + count_dles(rest);
+    7 + head.len() + rest.len() + doubled + ends as usize
 }
 
 // Whether a frame of these parts fits so many bytes. No frame is longer than 2 * n + 10, so DLEs are counted only where room is short.
-fn has_room(room: usize, cmd: u8, len: u8, payload: &[u8], check: u8) -> bool
-    requires { ⌜ length (now payload) ≤ 255 ⌝ }
-    ensures { λ r. ⌜ r ≡ leb (length (wire cmd len (now (payload .entry)) check)) room ⌝ }
+fn has_room(room: usize, cmd: u8, len: u8, head: &[u8], rest: &[u8], check: u8) -> bool
+    requires { ⌜ length (now head) + length (now rest) ≤ 255 ⌝ }
+    ensures { λ r. ⌜ r ≡ leb (length (wire cmd len (now (head .entry) ++ now (rest .entry)) check)) room ⌝ }
 {
-    if 2 * payload.len() + 10 <= room {
+    if 2 * (head.len() + rest.len()) + 10 <= room {
         return true;
     }
-    wire_len(cmd, len, payload, check) <= room
+    wire_len(cmd, len, head, rest, check) <= room
 }
 
-// Wraps a message in a frame. Refuses with 6 a payload over 255 bytes, then with 7 an output that is too short.
-pub fn encode_ngt_message(cmd: u8, payload: &[u8], out: &mut [u8]) -> Encoded
-    ensures { λ r. ⌜ toldEncoded r (now (out .exit)) ≡ encoded cmd (now (payload .entry)) (now (out .entry)) ⌝ }
+// The frame of a message whose payload is at most 255 bytes. Refuses with 7 an output that is too short.
+fn encode_short(cmd: u8, head: &[u8], rest: &[u8], out: &mut [u8]) -> Encoded
+    requires { ⌜ length (now head) + length (now rest) ≤ 255 ⌝ }
+    ensures { λ r. ⌜ toldEncoded r (now (out .exit)) ≡ encoded cmd (now (head .entry) ++ now (rest .entry)) (now (out .entry)) ⌝ }
 {
-    let n = payload.len();
-    if 255 < n {
-        return Encoded::Refused(6);
-    }
+    let n = head.len() + rest.len();
     let len = n as u8;
-    let check = checksum_byte(cmd, len, payload);
-    if has_room(out.len(), cmd, len, payload, check) {
-        let count = write_frame(out, cmd, len, payload, check);
+    let check = checksum_byte(cmd, len, head, rest);
+    if has_room(out.len(), cmd, len, head, rest, check) {
+        let count = write_frame(out, cmd, len, head, rest, check);
         return Encoded::Written {
             count,
             doubled: count - n - 7,
         };
     }
     Encoded::Refused(7)
+}
+
+// Wraps a message in a frame, its payload in two parts, head and then rest, so that a caller need not copy them together.
+// Refuses with 6 a payload over 255 bytes, then with 7 an output that is too short.
+pub fn encode_ngt_parts(cmd: u8, head: &[u8], rest: &[u8], out: &mut [u8]) -> Encoded
+    ensures { λ r. ⌜ toldEncoded r (now (out .exit)) ≡ encoded cmd (now (head .entry) ++ now (rest .entry)) (now (out .entry)) ⌝ }
+{
+    if 255 < head.len() {
+        return Encoded::Refused(6);
+    }
+    if 255 - head.len() < rest.len() {
+        return Encoded::Refused(6);
+    }
+    encode_short(cmd, head, rest, out)
+}
+
+// The same for a payload that stands in one piece.
+pub fn encode_ngt_message(cmd: u8, payload: &[u8], out: &mut [u8]) -> Encoded
+    ensures { λ r. ⌜ toldEncoded r (now (out .exit)) ≡ encoded cmd (now (payload .entry)) (now (out .entry)) ⌝ }
+{
+    encode_ngt_parts(cmd, payload, &[], out)
 }

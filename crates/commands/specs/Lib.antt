@@ -1,0 +1,4 @@
+-- The commands' bytes.
+pub mod Command
+pub mod CommandLaws
+pub mod Examples
