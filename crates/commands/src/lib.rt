@@ -1,5 +1,5 @@
 // BEM commands to the gateway (module 4), each a message with command A1.
-// Stands on framing. Numbers: 6 (over 253 port P-codes), 7 (an output that is too short); nothing is written then.
+// Stands on framing; a command's byte is that of its reply. Numbers: 6 (over 253 port P-codes), 7 (an output that is too short); nothing is written then.
 ghost use mathlib.Core.Path.{_≡_};
 ghost use mathlib.Core.List.{[], _∷_};
 ghost use Rattle.framing.specs.Encode.{toldEncoded};
@@ -7,26 +7,17 @@ ghost use Rattle.commands.specs.Command.{sent, setMode, enable, setPcode
 use field::le16;
 use field::le32;
 use framing::Encoded;
+use replies::BEM_ACTIVATE_PGN_ENABLE_LISTS;
+use replies::BEM_COMMIT_TO_EEPROM;
+use replies::BEM_OPERATING_MODE;
+use replies::BEM_PORT_PCODE;
+use replies::BEM_PRODUCT_INFO;
+use replies::BEM_SUPPORTED_PGN_LIST;
+use replies::BEM_TX_PGN_ENABLE;
+use replies::BEM_TX_PGN_ENABLE_LIST_F1;
+use replies::BEM_TX_PGN_ENABLE_LIST_F2;
 
 pub const NGT_MSG_SEND: u8 = 0xA1;
-
-pub const BEM_COMMIT_TO_EEPROM: u8 = 0x01;
-
-pub const BEM_OPERATING_MODE: u8 = 0x11;
-
-pub const BEM_PORT_PCODE: u8 = 0x13;
-
-pub const BEM_SUPPORTED_PGN_LIST: u8 = 0x40;
-
-pub const BEM_PRODUCT_INFO: u8 = 0x41;
-
-pub const BEM_TX_PGN_ENABLE: u8 = 0x47;
-
-pub const BEM_TX_PGN_ENABLE_LIST_F1: u8 = 0x49;
-
-pub const BEM_ACTIVATE_PGN_ENABLE_LISTS: u8 = 0x4B;
-
-pub const BEM_TX_PGN_ENABLE_LIST_F2: u8 = 0x4F;
 
 // A command without arguments.
 fn encode_bem(bem: u8, out: &mut [u8]) -> Encoded
