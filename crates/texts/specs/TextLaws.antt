@@ -71,6 +71,19 @@ read-formed d h = go (allPlain (cut d))
 pub lent-long : (d : List ℕ) (at : ℕ) → length (lent d at) ≤ textWidth
 lent-long d at = simp length-take (omega arith)
 
+-- the part that is lent, by what the data hold: nothing, all that is left, or the first 32 of it
+pub lent-none : (d : List ℕ) (at : ℕ) → length d ≤ at → [] ≡ lent d at
+lent-none d at h = sym (ap (take textWidth) (drop-of-length-le d {i = at} h))
+
+rest-all : (d : List ℕ) (at : ℕ) → take (length d - at) (drop at d) ≡ drop at d
+rest-all d at = take-all (length d - at) (drop at d) (simp length-drop (omega arith))
+
+pub lent-rest : (d : List ℕ) (at : ℕ) → length (take (length d - at) (drop at d)) ≤ textWidth → take (length d - at) (drop at d) ≡ lent d at
+lent-rest d at h = rest-all d at ∙ sym (take-all textWidth (drop at d) (rw (rest-all d at) at h))
+
+pub lent-first : (d : List ℕ) (at : ℕ) → take textWidth (take (length d - at) (drop at d)) ≡ lent d at
+lent-first d at = ap (take textWidth) (rest-all d at)
+
 -- a text that is read at a place is well formed
 pub textAt-formed : (d : List ℕ) (at : ℕ) → textFormed (textAt d at .text) ≡ true
 textAt-formed d at = read-formed (lent d at) (lent-long d at)

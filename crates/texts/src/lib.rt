@@ -102,27 +102,27 @@ fn is_plain(s: &[u8]) -> bool
 fn skip_white(s: &[u8]) -> usize
     ensures { λ r. ⌜ r ≡ leading (now (s .entry)) ⌝ }
 {
-    let mut i: usize = 0;
-    while i < s.len() {
-        if !is_white(s[i]) {
-            return i;
+    let mut a: usize = 0;
+    while a < s.len() {
+        if !is_white(s[a]) {
+            return a;
         }
-        i += 1;
+        a += 1;
     }
-    i
+    a
 }
 
 // How long a list is without the white bytes that it ends with.
 fn last_ink(s: &[u8]) -> usize
     ensures { λ r. ⌜ r ≡ length (trimRight (now (s .entry))) ⌝ }
 {
-    let mut i = s.len();
-    while 0 < i {
-        let j = i - 1;
+    let mut k = s.len();
+    while 0 < k {
+        let j = k - 1;
         if !is_white(s[j]) {
-            return i;
+            return k;
         }
-        i = j;
+        k = j;
     }
     0
 }

@@ -1,21 +1,17 @@
-use Rattle.texts.specs.Texts.{isWhite}
+-- `texts::is_white` meets its contract. Assumes nothing.
 use borrow.Author.Tests.{ne-eqb, lt-leb, le-leb}
+use Rattle.texts.specs.Texts.{isWhite}
 use Rattle.texts.proofs.is_white.Statement.{statement}
 use Rattle.texts.proofs.is_white.Tie as tie
-use Rattle.texts.proofs.is_white.Reads as reads
-use Rattle.texts.proofs.is_white.Lts as lts
 
--- src/lib.rt:57:9
 returns : tie.Need-returns
 unfolding isWhite
 returns c = rw (c .if1 .taken)
 
--- src/lib.rt:60:9
 returns-2 : tie.Need-returns-2
 unfolding isWhite
 returns-2 c = rw (ne-eqb _ 32 (c .before .if1 .left), lt-leb _ _ (c .if2 .taken))
 
--- src/lib.rt:53:1
 returns-3 : tie.Need-returns-3
 unfolding isWhite
 returns-3 c = rw (ne-eqb _ 32 (c .before .if1 .left), le-leb _ _ (c .if2 .left))

@@ -1,19 +1,15 @@
-use borrow.Author.Needs.{needs}
-use mathlib.Core.Path.{_≡_, refl, sym, ap, _∙_}
-use mathlib.Core.Bool.{true, false}
-use mathlib.Core.List.{List, []}
-use Prim.Native.Nat.{ℕ, _+_, _-_, _≤_, _<_}
+-- `texts::last_ink` meets its contract. Assumes nothing.
+use Prim.Native.Nat.{_-_, _≤_}
 use native.Mathlib.Omega.{arith}
-use lib.ListN.{length, drop, take, getD, drop-of-length-le}
+use mathlib.Core.Path.{_≡_, sym, ap, _∙_}
+use borrow.Author.Needs.{needs}
 use borrow.Author.Tests.{not-true, not-false}
+use lib.ListN.{length, take, getD}
 use lib.Seq.{take-length, length-take-le}
 use Rattle.texts.specs.Texts.{trimRight}
 use Rattle.texts.specs.TrimLaws.{front, trim-white, trim-ink}
 use Rattle.texts.proofs.last_ink.Statement.{statement}
 use Rattle.texts.proofs.last_ink.Tie as tie
-use Rattle.texts.proofs.last_ink.Reads as reads
-use Rattle.texts.proofs.last_ink.Lts as lts
-use Rattle.texts.proofs.is_white.Reads as is-white-reads
 
 abbrev Inv-loop : tie.InvT-loop
 Inv-loop s i₀ i = (i ≤ length s) × (trimRight (take i s) ≡ trimRight s)
@@ -21,49 +17,41 @@ Inv-loop s i₀ i = (i ≤ length s) × (trimRight (take i s) ≡ trimRight s)
 abbrev μ-loop : tie.MeasureT-loop
 μ-loop s i₀ i = i
 
--- src/lib.rt:115:5
 loop-holds : tie.Need-loop-holds Inv-loop μ-loop
 loop-holds c = (omega arith, ap trimRight (take-length (c .before .args .s .now)))
 
--- src/lib.rt:116:17
 sub-j : tie.Need-sub-j Inv-loop μ-loop
 sub-j c = search needs
 
--- src/lib.rt:117:22
 shared-slice-read-is-white : tie.Need-shared-slice-read-is-white Inv-loop μ-loop
 shared-slice-read-is-white c = search needs
 
--- src/lib.rt:117:13
 is-white-requires : tie.Need-is-white-requires Inv-loop μ-loop
 is-white-requires c κs = search needs
 
--- src/lib.rt:118:13
 returns : tie.Need-returns Inv-loop μ-loop
 returns c =
     let v = c .before .before .before .before .loop in
     let w = c .before .is-white in
     let s = c .before .before .before .before .before .before .args .s .now in
-    let f = front s (v .i) (omega arith) (v .inv .0) in
-    let e : trimRight s ≡ take (v .i) s = sym (v .inv .1) ∙ ap trimRight f ∙ trim-ink (take (v .i - 1) s) (getD s (v .i - 1) 0) (sym (w .ensures) ∙ not-true (w .result) (c .if1 .taken)) ∙ sym f in
-    sym (ap length e ∙ length-take-le (v .i) s (v .inv .0))
+    let f = front s (v .k) (omega arith) (v .knv .0) in
+    let e : trimRight s ≡ take (v .k) s = sym (v .knv .1) ∙ ap trimRight f ∙ trim-ink (take (v .k - 1) s) (getD s (v .k - 1) 0) (sym (w .ensures) ∙ not-true (w .result) (c .if1 .taken)) ∙ sym f in
+    sym (ap length e ∙ length-take-le (v .k) s (v .knv .0))
 
--- src/lib.rt:115:5
 loop-less : tie.Need-loop-less Inv-loop μ-loop
 loop-less c = search needs
 
--- src/lib.rt:115:5
 loop-again : tie.Need-loop-again Inv-loop μ-loop
 loop-again c =
     let v = c .before .before .before .before .loop in
     let w = c .before .is-white in
     let s = c .before .before .before .before .before .before .args .s .now in
-    (omega arith, sym (ap trimRight (front s (v .i) (omega arith) (v .inv .0)) ∙ trim-white (take (v .i - 1) s) (getD s (v .i - 1) 0) (sym (w .ensures) ∙ not-false (w .result) (c .if1 .left))) ∙ v .inv .1)
+    (omega arith, sym (ap trimRight (front s (v .k) (omega arith) (v .knv .0)) ∙ trim-white (take (v .k - 1) s) (getD s (v .k - 1) 0) (sym (w .ensures) ∙ not-false (w .result) (c .if1 .left))) ∙ v .knv .1)
 
--- src/lib.rt:111:1
 returns-2 : tie.Need-returns-2 Inv-loop μ-loop
 unfolding trimRight
 returns-2 c =
-    let z : c .before .loop .i ≡ 0 = omega arith in
+    let z : c .before .loop .k ≡ 0 = omega arith in
     ap length (rw z at (c .before .loop .inv .1))
 
 pub last-ink-spec : {M : Type 1} → statement M

@@ -1,18 +1,14 @@
-use borrow.Author.Needs.{needs}
-use mathlib.Core.Path.{_≡_, refl, sym, ap, ap₂, _∙_}
-use mathlib.Core.List.{List, _++_}
-use Prim.Native.Nat.{ℕ, suc, _+_, _-_, _≤_}
+-- `texts::text_of` meets its contract. Assumes nothing.
+use Prim.Native.Nat.{ℕ, _-_, _≤_}
 use native.Mathlib.Omega.{arith}
-use native.Mathlib.Nat.{zero-add}
-use native.Mathlib.Numerals.{add-one}
-use lib.ListN.{length, take, drop, set, getD, replicate, length-replicate}
+use mathlib.Core.Path.{_≡_, refl, ap, ap₂, _∙_}
+use mathlib.Core.List.{List}
+use borrow.Author.Needs.{needs}
+use lib.ListN.{length, set, getD, replicate}
 use lib.Seq.{paste}
 use Rattle.texts.specs.TextLaws.{copy-more, copy-done}
-use Rattle.texts.specs.declared.Text.{Text}
 use Rattle.texts.proofs.text_of.Statement.{statement}
 use Rattle.texts.proofs.text_of.Tie as tie
-use Rattle.texts.proofs.text_of.Reads as reads
-use Rattle.texts.proofs.text_of.Lts as lts
 
 abbrev Inv-loop : tie.InvT-loop
 Inv-loop s bytes₀ i₀ bytes i = (i ≤ length s) × (bytes ≡ paste (replicate 32 0) 0 s i)
@@ -20,34 +16,27 @@ Inv-loop s bytes₀ i₀ bytes i = (i ≤ length s) × (bytes ≡ paste (replica
 abbrev μ-loop : tie.MeasureT-loop
 μ-loop s bytes₀ i₀ bytes i = length s - i
 
--- src/lib.rt:18:5
 loop-holds : tie.Need-loop-holds Inv-loop μ-loop
 loop-holds c = (omega arith, refl)
 
--- src/lib.rt:19:20
 shared-slice-read-bytes : tie.Need-shared-slice-read-bytes Inv-loop μ-loop
 shared-slice-read-bytes c = search needs
 
--- src/lib.rt:19:9
 array-write-bytes : tie.Need-array-write-bytes Inv-loop μ-loop
 array-write-bytes c = search needs
 
--- src/lib.rt:20:9
 add-i : tie.Need-add-i Inv-loop μ-loop
 add-i c = search needs
 
--- src/lib.rt:18:5
 loop-less : tie.Need-loop-less Inv-loop μ-loop
 loop-less c = search needs
 
--- src/lib.rt:18:5
 loop-again : tie.Need-loop-again Inv-loop μ-loop
 loop-again c =
     let v = c .before .before .loop in
     let s = c .before .before .before .args .s .now in
     (omega arith, ap (λ (l : List ℕ). set l (v .i) (getD s (v .i) 0)) (v .inv .1) ∙ copy-more (replicate 32 0) s (v .i) (omega arith) (omega arith))
 
--- src/lib.rt:12:1
 returns : tie.Need-returns Inv-loop μ-loop
 returns c =
     let v = c .before .loop in

@@ -1,25 +1,18 @@
-use mathlib.Core.Path.{_≡_, refl, sym, ap, _∙_}
-use mathlib.Core.List.{List, []}
-use Prim.Native.Nat.{ℕ, _-_, _≤_}
-use native.Mathlib.Omega.{arith}
+-- `texts::text_read` meets its contract. Assumes nothing.
+use Prim.Native.Nat.{ℕ, _-_}
 use native.Mathlib.Nat.{le-trans}
+use native.Mathlib.Omega.{arith}
+use mathlib.Core.Path.{_≡_, sym, ap, _∙_}
+use mathlib.Core.List.{List}
+use borrow.Author.Needs.{needs}
 use borrow.Author.Tests.{not-true, not-false}
-use lib.ListN.{length, take, drop, length-take, length-drop}
-use Rattle.texts.specs.Texts.{cut, allPlain, leading, trimRight, trimmed, textOf}
+use lib.ListN.{length, take, drop}
 use Rattle.texts.specs.declared.Text.{Text}
-use Rattle.texts.specs.declared.TextRead.{TextRead}
+use Rattle.texts.specs.Texts.{cut, allPlain, leading, trimRight, textOf}
 use Rattle.texts.specs.TrimLaws.{cut-long, lead-long, trim-long, cut-is, rest-is, ink-is}
 use Rattle.texts.specs.TextLaws.{read-good, read-bad, part-short}
-use borrow.Author.Needs.{needs}
 use Rattle.texts.proofs.text_read.Statement.{statement}
 use Rattle.texts.proofs.text_read.Tie as tie
-use Rattle.texts.proofs.text_read.Reads as reads
-use Rattle.texts.proofs.text_read.Lts as lts
-use Rattle.texts.proofs.end_of.Reads as end-of-reads
-use Rattle.texts.proofs.is_plain.Reads as is-plain-reads
-use Rattle.texts.proofs.last_ink.Reads as last-ink-reads
-use Rattle.texts.proofs.skip_white.Reads as skip-white-reads
-use Rattle.texts.proofs.text_of.Reads as text-of-reads
 
 -- the part before the end, and what follows its white bytes, as lists
 abbrev S : (c : tie.After-end-of) → List ℕ
@@ -37,91 +30,62 @@ R c = take (length (S (E c)) - c .skip-white .result) (drop (c .skip-white .resu
 r-is : (c : tie.After-skip-white) → R c ≡ drop (leading (cut (E c .before .before .args .d .now))) (cut (E c .before .before .args .d .now))
 r-is c = rest-is (S (E c)) (c .skip-white .result) (c .skip-white .ensures) ∙ ap (λ (l : List ℕ). drop (leading l) l) (s-is (E c))
 
--- src/lib.rt:134:9
 end-of-requires : tie.Need-end-of-requires
 end-of-requires c κs = search needs
 
--- src/lib.rt:135:13
 sub-s : tie.Need-sub-s
 sub-s c = search needs
 
--- src/lib.rt:135:13
 part-s-start : tie.Need-part-s-start
 part-s-start c = search needs
 
--- src/lib.rt:135:13
 part-s-end : tie.Need-part-s-end
 part-s-end c = omega (arith, c .end-of .ensures, cut-long (c .before .before .args .d .now))
 
--- src/lib.rt:136:9
 is-plain-requires : tie.Need-is-plain-requires
 is-plain-requires c κs = search needs
 
--- src/lib.rt:137:28
-sub-text-of : tie.Need-sub-text-of
-sub-text-of c = search needs
+empty-requires : tie.Need-empty-requires
+empty-requires c κs = search needs
 
--- src/lib.rt:137:28
-part-text-of-start : tie.Need-part-text-of-start
-part-text-of-start c = search needs
-
--- src/lib.rt:137:28
-part-text-of-end : tie.Need-part-text-of-end
-part-text-of-end c = search needs
-
--- src/lib.rt:137:13
-text-of-requires : tie.Need-text-of-requires
-text-of-requires c κs = search needs
-
--- src/lib.rt:138:9
 returns : tie.Need-returns
 returns c =
-    let e = c .before .before .before .before .before in
-    let p = c .before .before .before .is-plain in
+    let p = c .before .before .is-plain in
+    let e = c .before .before .before .before in
     let d = e .before .before .args .d .now in
-    ap (λ (x : Text). record { number = 15; text = x }) (c .text-of .ensures)
-    ∙ read-bad d (ap allPlain (sym (s-is e)) ∙ sym (p .ensures) ∙ not-true (p .result) (c .before .before .if1 .taken))
+    ap (λ (x : Text). record { number = 15; text = x }) (c .empty .ensures)
+    ∙ read-bad d (ap allPlain (sym (s-is e)) ∙ sym (p .ensures) ∙ not-true (p .result) (c .before .if1 .taken))
 
--- src/lib.rt:140:9
 skip-white-requires : tie.Need-skip-white-requires
 skip-white-requires c κs = search needs
 
--- src/lib.rt:141:13
 sub-t : tie.Need-sub-t
 sub-t c = omega (arith, c .skip-white .ensures, lead-long (S (E c)))
 
--- src/lib.rt:141:13
 part-t-start : tie.Need-part-t-start
 part-t-start c = omega (arith, c .skip-white .ensures, lead-long (S (E c)))
 
--- src/lib.rt:141:13
 part-t-end : tie.Need-part-t-end
 part-t-end c = search needs
 
--- src/lib.rt:142:9
 last-ink-requires : tie.Need-last-ink-requires
 last-ink-requires c κs = search needs
 
--- src/lib.rt:143:24
-sub-text-of-2 : tie.Need-sub-text-of-2
-sub-text-of-2 c = search needs
+sub-text-of : tie.Need-sub-text-of
+sub-text-of c = search needs
 
--- src/lib.rt:143:24
-part-text-of-start-2 : tie.Need-part-text-of-start-2
-part-text-of-start-2 c = search needs
+part-text-of-start : tie.Need-part-text-of-start
+part-text-of-start c = search needs
 
--- src/lib.rt:143:24
-part-text-of-end-2 : tie.Need-part-text-of-end-2
-part-text-of-end-2 c = omega (arith, c .last-ink .ensures, trim-long (R (c .before .before)))
+part-text-of-end : tie.Need-part-text-of-end
+part-text-of-end c = omega (arith, c .last-ink .ensures, trim-long (R (c .before .before)))
 
--- src/lib.rt:143:9
-text-of-requires-2 : tie.Need-text-of-requires-2
-text-of-requires-2 c κs =
+text-of-requires : tie.Need-text-of-requires
+text-of-requires c κs =
     let w = c .before .before .before in
     let d = E w .before .before .args .d .now in
     le-trans (part-short (c .before .last-ink .result - 0) (length (S (E w)) - w .skip-white .result) (w .skip-white .result) (E w .end-of .result - 0) d) (E w .before .before .pre)
 
--- src/lib.rt:130:1
 returns-2 : tie.Need-returns-2
 returns-2 c =
     let w = c .before .before .before .before in
@@ -129,7 +93,7 @@ returns-2 c =
     let p = w .before .before .is-plain in
     let d = e .before .before .args .d .now in
     let k = c .before .before .last-ink in
-    ap (λ (x : Text). record { number = 0; text = x }) (c .text-of2 .ensures ∙ ap textOf (ink-is (R w) (k .result) (k .ensures) ∙ ap trimRight (r-is w)))
+    ap (λ (x : Text). record { number = 0; text = x }) (c .text-of .ensures ∙ ap textOf (ink-is (R w) (k .result) (k .ensures) ∙ ap trimRight (r-is w)))
     ∙ read-good d (ap allPlain (sym (s-is e)) ∙ sym (p .ensures) ∙ not-false (p .result) (w .before .if1 .left))
 
 pub text-read-spec : {M : Type 1} → statement M
@@ -141,18 +105,15 @@ text-read-spec =
     part-s-start
     part-s-end
     is-plain-requires
-    sub-text-of
-    part-text-of-start
-    part-text-of-end
-    text-of-requires
+    empty-requires
     returns
     skip-white-requires
     sub-t
     part-t-start
     part-t-end
     last-ink-requires
-    sub-text-of-2
-    part-text-of-start-2
-    part-text-of-end-2
-    text-of-requires-2
+    sub-text-of
+    part-text-of-start
+    part-text-of-end
+    text-of-requires
     returns-2)
