@@ -12,10 +12,10 @@ use Rattle.texts.proofs.last_ink.Statement.{statement}
 use Rattle.texts.proofs.last_ink.Tie as tie
 
 abbrev Inv-loop : tie.InvT-loop
-Inv-loop s i₀ i = (i ≤ length s) × (trimRight (take i s) ≡ trimRight s)
+Inv-loop s k₀ k = (k ≤ length s) × (trimRight (take k s) ≡ trimRight s)
 
 abbrev μ-loop : tie.MeasureT-loop
-μ-loop s i₀ i = i
+μ-loop s k₀ k = k
 
 loop-holds : tie.Need-loop-holds Inv-loop μ-loop
 loop-holds c = (omega arith, ap trimRight (take-length (c .before .args .s .now)))
@@ -34,9 +34,9 @@ returns c =
     let v = c .before .before .before .before .loop in
     let w = c .before .is-white in
     let s = c .before .before .before .before .before .before .args .s .now in
-    let f = front s (v .k) (omega arith) (v .knv .0) in
-    let e : trimRight s ≡ take (v .k) s = sym (v .knv .1) ∙ ap trimRight f ∙ trim-ink (take (v .k - 1) s) (getD s (v .k - 1) 0) (sym (w .ensures) ∙ not-true (w .result) (c .if1 .taken)) ∙ sym f in
-    sym (ap length e ∙ length-take-le (v .k) s (v .knv .0))
+    let f = front s (v .k) (omega arith) (v .inv .0) in
+    let e : trimRight s ≡ take (v .k) s = sym (v .inv .1) ∙ ap trimRight f ∙ trim-ink (take (v .k - 1) s) (getD s (v .k - 1) 0) (sym (w .ensures) ∙ not-true (w .result) (c .if1 .taken)) ∙ sym f in
+    sym (ap length e ∙ length-take-le (v .k) s (v .inv .0))
 
 loop-less : tie.Need-loop-less Inv-loop μ-loop
 loop-less c = search needs
@@ -46,7 +46,7 @@ loop-again c =
     let v = c .before .before .before .before .loop in
     let w = c .before .is-white in
     let s = c .before .before .before .before .before .before .args .s .now in
-    (omega arith, sym (ap trimRight (front s (v .k) (omega arith) (v .knv .0)) ∙ trim-white (take (v .k - 1) s) (getD s (v .k - 1) 0) (sym (w .ensures) ∙ not-false (w .result) (c .if1 .left))) ∙ v .knv .1)
+    (omega arith, sym (ap trimRight (front s (v .k) (omega arith) (v .inv .0)) ∙ trim-white (take (v .k - 1) s) (getD s (v .k - 1) 0) (sym (w .ensures) ∙ not-false (w .result) (c .if1 .left))) ∙ v .inv .1)
 
 returns-2 : tie.Need-returns-2 Inv-loop μ-loop
 unfolding trimRight

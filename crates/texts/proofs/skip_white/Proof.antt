@@ -11,10 +11,10 @@ use Rattle.texts.proofs.skip_white.Statement.{statement}
 use Rattle.texts.proofs.skip_white.Tie as tie
 
 abbrev Inv-loop : tie.InvT-loop
-Inv-loop s i₀ i = (i ≤ length s) × (i + leading (drop i s) ≡ leading s)
+Inv-loop s a₀ a = (a ≤ length s) × (a + leading (drop a s) ≡ leading s)
 
 abbrev μ-loop : tie.MeasureT-loop
-μ-loop s i₀ i = length s - i
+μ-loop s a₀ a = length s - a
 
 loop-holds : tie.Need-loop-holds Inv-loop μ-loop
 loop-holds c = search needs
