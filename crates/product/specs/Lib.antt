@@ -1,0 +1,3 @@
+-- The definitions that the contracts of product cite, and the laws about them that other crates cite.
+-- Definitions: what a reader has to believe.
+pub mod Product
