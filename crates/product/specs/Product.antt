@@ -44,6 +44,10 @@ held p = record { info = p; number = 0; whole = allHeld p }
 abbrev pub plainAt : List ℕ → ℕ → Bool
 plainAt d at = eqb (textAt d at .number) 0
 
+-- the four texts of a reply of sequence 6: "texts of 32 at 8, 40, 72, 104"
+abbrev pub plainAll : List ℕ → Bool
+plainAll d = plainAt d 8 && plainAt d 40 && plainAt d 72 && plainAt d 104
+
 -- all parts of a reply, with the four texts: "version at 4, code at 6"
 abbrev pub allOf : List ℕ → Text → Text → Text → Text → ProductInfo
 allOf d m s h n = record {
@@ -60,7 +64,7 @@ allOf d m s h n = record {
 unfoldable pub allAdded : ProductInfo → List ℕ → Added
 allAdded p d =
     pick (leb 138 (length d))
-    (pick (plainAt d 8 && plainAt d 40 && plainAt d 72 && plainAt d 104)
+    (pick (plainAll d)
     (held (allOf d (textAt d 8 .text) (textAt d 40 .text) (textAt d 72 .text) (textAt d 104 .text)))
     (refused p 15))
     (held p)

@@ -65,10 +65,7 @@ impl ProductInfo {
         match sequence {
             6 => add_all(self, data),
             1 => add_numbers(self, data),
-            2 => add_text(self, 2, data),
-            3 => add_text(self, 3, data),
-            4 => add_text(self, 4, data),
-            5 => add_text(self, 5, data),
+            2..=5 => add_text(self, sequence, data),
             _ => hold(self),
         }
     }

@@ -56,10 +56,10 @@ before-the-end-fe = refl
 
 -- the text at place 2 is 32 bytes long: the byte after it is not looked at
 pub at-a-place : textAt (0x80 ∷ 0x80 ∷ (replicate 32 0x4E ++ (0x80 ∷ []))) 2 ≡ reads (replicate 32 0x4E)
-unfolding textRead cut isWhite leading trimRight allPlain
+unfolding textAt textRead cut isWhite leading trimRight allPlain
 at-a-place = refl
 
 -- past the end of the data there is nothing
 pub past-the-end : textAt (0x4E ∷ []) 1 ≡ reads []
-unfolding textRead cut isWhite leading trimRight allPlain
+unfolding textAt textRead cut isWhite leading trimRight allPlain
 past-the-end = refl

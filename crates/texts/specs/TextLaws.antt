@@ -86,4 +86,5 @@ lent-first d at = ap (take textWidth) (rest-all d at)
 
 -- a text that is read at a place is well formed
 pub textAt-formed : (d : List ℕ) (at : ℕ) → textFormed (textAt d at .text) ≡ true
+unfolding textAt
 textAt-formed d at = read-formed (lent d at) (lent-long d at)

@@ -75,5 +75,5 @@ abbrev pub lent : List ℕ → ℕ → List ℕ
 lent d at = take textWidth (drop at d)
 
 -- the text at a place of a reply's data
-abbrev pub textAt : List ℕ → ℕ → TextRead
+unfoldable pub textAt : List ℕ → ℕ → TextRead
 textAt d at = textRead (lent d at)
