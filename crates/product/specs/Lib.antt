@@ -3,3 +3,5 @@
 pub mod Product
 -- Laws, case by case, that proofs go by.
 pub mod ProductLaws
+-- Theorems.
+pub mod Adding

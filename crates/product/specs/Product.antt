@@ -40,6 +40,10 @@ refused p n = record { info = p; number = n; whole = false }
 abbrev pub held : ProductInfo → Added
 held p = record { info = p; number = 0; whole = allHeld p }
 
+-- a reply sets q for p if it is long enough; it is refused with 15 if one of the texts that it would set is not plain
+abbrev pub setsIf : Bool → Bool → ProductInfo → ProductInfo → Added
+setsIf enough plain p q = pick enough (pick plain (held q) (refused p 15)) (held p)
+
 -- no "byte 80 to FE before a text's end": the text at a place can be read
 abbrev pub plainAt : List ℕ → ℕ → Bool
 plainAt d at = eqb (textAt d at .number) 0
@@ -63,11 +67,7 @@ allOf d m s h n = record {
 -- "sequence 6 with at least 138 data bytes sets all; version at 4, code at 6, texts of 32 at 8, 40, 72, 104"
 unfoldable pub allAdded : ProductInfo → List ℕ → Added
 allAdded p d =
-    pick (leb 138 (length d))
-    (pick (plainAll d)
-    (held (allOf d (textAt d 8 .text) (textAt d 40 .text) (textAt d 72 .text) (textAt d 104 .text)))
-    (refused p 15))
-    (held p)
+    setsIf (leb 138 (length d)) (plainAll d) p (allOf d (textAt d 8 .text) (textAt d 40 .text) (textAt d 72 .text) (textAt d 104 .text))
 
 -- the numbers are set, and their part is held
 abbrev pub withNumbers : ProductInfo → ℕ → ℕ → ProductInfo
@@ -89,7 +89,7 @@ withNumbers p version code = record {
 
 -- "Sequence 1 with at least 6 sets version at 0 and code at 2."
 unfoldable pub numbersAdded : ProductInfo → List ℕ → Added
-numbersAdded p d = pick (leb 6 (length d)) (held (withNumbers p (field d 0 2) (field d 2 2))) (held p)
+numbersAdded p d = setsIf (leb 6 (length d)) true p (withNumbers p (field d 0 2) (field d 2 2))
 
 -- "Sequences 2 to 5 .. set model, software, hardware, serial": that text is set, and its part is held
 unfoldable pub withText : ProductInfo → ℕ → Text → ProductInfo
@@ -111,10 +111,7 @@ withText p sequence t = record {
 
 -- "with at least 32"
 unfoldable pub textAdded : ProductInfo → ℕ → List ℕ → Added
-textAdded p sequence d =
-    pick (leb textWidth (length d))
-    (pick (plainAt d 0) (held (withText p sequence (textAt d 0 .text))) (refused p 15))
-    (held p)
+textAdded p sequence d = setsIf (leb textWidth (length d)) (plainAt d 0) p (withText p sequence (textAt d 0 .text))
 
 -- what a reply's sequence number asks for: "Others change nothing."
 unfoldable pub bySequence : ProductInfo → ℕ → List ℕ → Added

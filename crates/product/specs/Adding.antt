@@ -1,0 +1,125 @@
+-- What adding a reply keeps and says, whatever the reply. Assumes nothing.
+use Prim.Native.Nat.{ℕ}
+use mathlib.Core.Path.{_≡_, refl, sym, ap, _∙_}
+use mathlib.Core.Bool.{Bool, true, false, not, _&&_, false≢true}
+use mathlib.Core.List.{List}
+use borrow.Author.Tests.{eqb-true}
+use lib.ListN.{length}
+use lib.Dec.{leb, eqb}
+use Rattle.field.specs.Pick.{pick}
+use Rattle.texts.specs.Texts.{textWidth, textFormed, textAt}
+use Rattle.texts.specs.TextLaws.{textAt-formed}
+use Rattle.texts.specs.declared.Text.{Text}
+use Rattle.product.specs.declared.ProductInfo.{ProductInfo}
+use Rattle.product.specs.declared.Added.{Added}
+use Rattle.product.specs.Product.{noInfo, formed, allHeld, refused, held, setsIf, plainAt, plainAll, allAdded, numbersAdded, withText, textAdded, bySequence, added}
+
+-- what holds of both, holds of the one that is picked
+either : {A : Type 0} (P : A → Type 0) (t : Bool) {a b : A} → P a → P b → P (pick t a b)
+either P true x y = x
+either P false x y = y
+
+sets-either : (P : Added → Type 0) (l q : Bool) {p a : ProductInfo} → P (held a) → P (refused p 15) → P (held p) → P (setsIf l q p a)
+sets-either P true true x y z = x
+sets-either P true false x y z = y
+sets-either P false q x y z = z
+
+-- every answer is a refusal that hands back what was handed in, or holds something
+every : (P : Added → Type 0) (p : ProductInfo) (s : ℕ) (d : List ℕ) → P (refused p 16) → P (refused p 15) → ((q : ProductInfo) → P (held q)) → P (added p s d)
+unfolding added bySequence allAdded numbersAdded textAdded
+every P p s d r₁₆ r₁₅ h =
+    either P (formed p)
+    (either P (eqb s 6) (sets-either P (leb 138 (length d)) (plainAll d) (h _) r₁₅ (h p))
+    (either P (eqb s 1) (sets-either P (leb 6 (length d)) true (h _) r₁₅ (h p))
+    (either P (leb 2 s && leb s 5) (sets-either P (leb textWidth (length d)) (plainAt d 0) (h _) r₁₅ (h p)) (h p))))
+    r₁₆
+
+-- a refusal leaves the information as it was
+pub refusal-keeps : (p : ProductInfo) (s : ℕ) (d : List ℕ) → (added p s d .number ≡ 0 → ⊥) → added p s d .info ≡ p
+refusal-keeps p s d = every (λ r. (r .number ≡ 0 → ⊥) → r .info ≡ p) p s d (λ n. refl) (λ n. refl) (λ q n. absurd (n refl))
+
+-- it says yes exactly if nothing was refused and all five parts are held
+pub whole-is : (p : ProductInfo) (s : ℕ) (d : List ℕ) → added p s d .whole ≡ (eqb (added p s d .number) 0 && allHeld (added p s d .info))
+whole-is p s d = every (λ r. r .whole ≡ (eqb (r .number) 0 && allHeld (r .info))) p s d refl refl (λ q. refl)
+
+-- Well formed
+
+pub new-formed : formed noInfo ≡ true
+new-formed = refl
+
+all-formed : {a b c e : Bool} → a ≡ true → b ≡ true → c ≡ true → e ≡ true → (a && b && c && e) ≡ true
+all-formed w x y z = rw (w, x, y, z)
+
+both-true : (a b : Bool) → (a && b) ≡ true → (a ≡ true) × (b ≡ true)
+both-true true b h = (refl, h)
+both-true false b h = absurd (false≢true h)
+
+text-formed : (p : ProductInfo) (s : ℕ) (t : Text) → formed p ≡ true → textFormed t ≡ true → formed (withText p s t) ≡ true
+unfolding withText
+text-formed p s t h g =
+    let P : Text → Type 0 = λ u. textFormed u ≡ true in
+    let h₃ = both-true _ _ h in
+    let h₂ = both-true _ _ (h₃ .0) in
+    let h₁ = both-true _ _ (h₂ .0) in
+    all-formed (either P (eqb s 2) g (h₁ .0)) (either P (eqb s 3) g (h₁ .1)) (either P (eqb s 4) g (h₂ .1)) (either P (eqb s 5) g (h₃ .1))
+
+-- a well-formed information stays well formed
+pub formed-kept : (p : ProductInfo) (s : ℕ) (d : List ℕ) → formed p ≡ true → formed (added p s d .info) ≡ true
+unfolding added bySequence allAdded numbersAdded textAdded
+formed-kept p s d h =
+    let P : Added → Type 0 = λ r. formed (r .info) ≡ true in
+    either P (formed p)
+    (either P (eqb s 6) (sets-either P (leb 138 (length d)) (plainAll d) (all-formed (textAt-formed d 8) (textAt-formed d 40) (textAt-formed d 72) (textAt-formed d 104)) h h)
+    (either P (eqb s 1) (sets-either P (leb 6 (length d)) true h h h)
+    (either P (leb 2 s && leb s 5) (sets-either P (leb textWidth (length d)) (plainAt d 0) (text-formed p s (textAt d 0 .text) h (textAt-formed d 0)) h h) h)))
+    h
+
+-- The refusals
+
+-- a reply would set a text that is not plain: all four, or one
+abbrev pub spoiltAll : List ℕ → Bool
+spoiltAll d = leb 138 (length d) && not (plainAll d)
+
+abbrev pub spoiltPart : ℕ → List ℕ → Bool
+spoiltPart s d = leb 2 s && leb s 5 && leb textWidth (length d) && not (plainAt d 0)
+
+abbrev pub spoilt : ℕ → List ℕ → Bool
+spoilt s d = pick (eqb s 6) (spoiltAll d) (spoiltPart s d)
+
+sets-number : (l q : Bool) (p a : ProductInfo) → setsIf l q p a .number ≡ pick (l && not q) 15 0
+sets-number true true p a = refl
+sets-number true false p a = refl
+sets-number false q p a = refl
+
+numbers-number : (l : Bool) (p a : ProductInfo) → setsIf l true p a .number ≡ 0
+numbers-number true p a = refl
+numbers-number false p a = refl
+
+text-number : (u l q : Bool) (p a : ProductInfo) → pick u (setsIf l q p a) (held p) .number ≡ pick (u && l && not q) 15 0
+text-number true l q p a = sets-number l q p a
+text-number false l q p a = refl
+
+six-number : (t : Bool) (x y : Added) (a b : Bool) → x .number ≡ pick a 15 0 → y .number ≡ pick b 15 0 → pick t x y .number ≡ pick (pick t a b) 15 0
+six-number true x y a b h g = h
+six-number false x y a b h g = g
+
+one-number : (t : Bool) (s : ℕ) (x y : Added) (b : Bool) → eqb s 1 ≡ t → x .number ≡ 0 → (s ≡ 1 → b ≡ false) → y .number ≡ pick b 15 0 → pick t x y .number ≡ pick b 15 0
+one-number true s x y b e h f g = h ∙ sym (ap (λ (c : Bool). pick {A = ℕ} c 15 0) (f (eqb-true s 1 e)))
+one-number false s x y b e h f g = g
+
+ill-number : (t : Bool) (x : Added) (p : ProductInfo) {n : ℕ} → x .number ≡ n → pick t x (refused p 16) .number ≡ pick t n 16
+ill-number true x p h = h
+ill-number false x p h = refl
+
+sequence-number : (p : ProductInfo) (s : ℕ) (d : List ℕ) → bySequence p s d .number ≡ pick (spoilt s d) 15 0
+unfolding bySequence allAdded numbersAdded textAdded
+sequence-number p s d =
+    let y : Added = pick (leb 2 s && leb s 5) (textAdded p s d) (held p) in
+    six-number (eqb s 6) (allAdded p d) (pick (eqb s 1) (numbersAdded p d) y) (spoiltAll d) (spoiltPart s d) (sets-number (leb 138 (length d)) (plainAll d) p _)
+    (one-number (eqb s 1) s (numbersAdded p d) y (spoiltPart s d) refl (numbers-number (leb 6 (length d)) p _) (λ e. rw e)
+    (text-number (leb 2 s && leb s 5) (leb textWidth (length d)) (plainAt d 0) p _))
+
+-- 16 before 15, and nothing else is refused
+pub number-is : (p : ProductInfo) (s : ℕ) (d : List ℕ) → added p s d .number ≡ pick (formed p) (pick (spoilt s d) 15 0) 16
+unfolding added
+number-is p s d = ill-number (formed p) (bySequence p s d) p (sequence-number p s d)
