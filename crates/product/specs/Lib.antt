@@ -5,3 +5,5 @@ pub mod Product
 pub mod ProductLaws
 -- Theorems.
 pub mod Adding
+-- Worked examples.
+pub mod ProductEdges

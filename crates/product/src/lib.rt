@@ -116,6 +116,7 @@ fn add_all(info: ProductInfo, data: &[u8]) -> Added
     let software = texts::text_at(data, 40);
     let hardware = texts::text_at(data, 72);
     let serial = texts::text_at(data, 104);
+    let all = all_of(data, model.text, software.text, hardware.text, serial.text);
     let plain = (model.number == 0)
         & (software.number == 0)
         & (hardware.number == 0)
@@ -123,7 +124,7 @@ fn add_all(info: ProductInfo, data: &[u8]) -> Added
     if !plain {
         return refuse(info, 15);
     }
-    hold(all_of(data, model.text, software.text, hardware.text, serial.text))
+    hold(all)
 }
 
 // All that a reply of sequence 6 sets.
@@ -176,10 +177,11 @@ fn add_text(info: ProductInfo, sequence: u8, data: &[u8]) -> Added
         return hold(info);
     }
     let read = texts::text_at(data, 0);
-    if read.number != 0 {
-        return refuse(info, 15);
+    let set = with_text(info, sequence, read.text);
+    if read.number == 0 {
+        return hold(set);
     }
-    hold(with_text(info, sequence, read.text))
+    refuse(info, 15)
 }
 
 fn with_text(info: ProductInfo, sequence: u8, text: Text) -> ProductInfo
