@@ -1,18 +1,19 @@
 -- What adding a reply keeps and says, whatever the reply. Assumes nothing.
 use Prim.Native.Nat.{ℕ}
 use mathlib.Core.Path.{_≡_, refl, sym, ap, _∙_}
-use mathlib.Core.Bool.{Bool, true, false, not, _&&_, false≢true}
+use mathlib.Core.Bool.{Bool, true, false, not, _&&_, _||_, false≢true}
 use mathlib.Core.List.{List}
 use borrow.Author.Tests.{eqb-true}
 use lib.ListN.{length}
 use lib.Dec.{leb, eqb}
 use Rattle.field.specs.Pick.{pick}
+use Rattle.field.specs.Fields.{field}
 use Rattle.texts.specs.Texts.{textWidth, textFormed, textAt}
 use Rattle.texts.specs.TextLaws.{textAt-formed}
 use Rattle.texts.specs.declared.Text.{Text}
 use Rattle.product.specs.declared.ProductInfo.{ProductInfo}
 use Rattle.product.specs.declared.Added.{Added}
-use Rattle.product.specs.Product.{noInfo, formed, allHeld, refused, held, setsIf, plainAt, plainAll, allAdded, numbersAdded, withText, textAdded, bySequence, added}
+use Rattle.product.specs.Product.{noInfo, formed, allHeld, refused, held, setsIf, plainAt, plainAll, allAdded, withNumbers, numbersAdded, withText, textAdded, bySequence, added}
 
 -- what holds of both, holds of the one that is picked
 either : {A : Type 0} (P : A → Type 0) (t : Bool) {a b : A} → P a → P b → P (pick t a b)
@@ -123,3 +124,38 @@ sequence-number p s d =
 pub number-is : (p : ProductInfo) (s : ℕ) (d : List ℕ) → added p s d .number ≡ pick (formed p) (pick (spoilt s d) 15 0) 16
 unfolding added
 number-is p s d = ill-number (formed p) (bySequence p s d) p (sequence-number p s d)
+
+-- Parts once held stay held
+
+all-held : {a b c e f : Bool} → a ≡ true → b ≡ true → c ≡ true → e ≡ true → f ≡ true → (a && b && c && e && f) ≡ true
+all-held v w x y z = rw (v, w, x, y, z)
+
+each-held : (a b c e f : Bool) → (a && b && c && e && f) ≡ true → (a ≡ true) × (b ≡ true) × (c ≡ true) × (e ≡ true) × (f ≡ true)
+each-held a b c e f h =
+    let h₄ = both-true (a && b && c && e) f h in
+    let h₃ = both-true (a && b && c) e (h₄ .0) in
+    let h₂ = both-true (a && b) c (h₃ .0) in
+    let h₁ = both-true a b (h₂ .0) in
+    (h₁ .0, h₁ .1, h₂ .1, h₃ .1, h₄ .1)
+
+or-held : (t u : Bool) → u ≡ true → (t || u) ≡ true
+or-held true u h = refl
+or-held false u h = h
+
+held-kept : (p : ProductInfo) (s : ℕ) (d : List ℕ) → allHeld p ≡ true → allHeld (added p s d .info) ≡ true
+unfolding added bySequence allAdded numbersAdded textAdded withText
+held-kept p s d h =
+    let P : Added → Type 0 = λ r. allHeld (r .info) ≡ true in
+    let k = each-held (p .parts .numbers) (p .parts .model) (p .parts .software) (p .parts .hardware) (p .parts .serial) h in
+    let n : allHeld (withNumbers p (field d 0 2) (field d 2 2)) ≡ true = all-held refl (k .1) (k .2) (k .3) (k .4) in
+    let t : allHeld (withText p s (textAt d 0 .text)) ≡ true =
+    all-held (k .0) (or-held (eqb s 2) _ (k .1)) (or-held (eqb s 3) _ (k .2)) (or-held (eqb s 4) _ (k .3)) (or-held (eqb s 5) _ (k .4)) in
+    either P (formed p)
+    (either P (eqb s 6) (sets-either P (leb 138 (length d)) (plainAll d) refl h h)
+    (either P (eqb s 1) (sets-either P (leb 6 (length d)) true n h h)
+    (either P (leb 2 s && leb s 5) (sets-either P (leb textWidth (length d)) (plainAt d 0) t h h) h)))
+    h
+
+-- with all five parts held it says yes to every reply that it does not refuse
+pub whole-stays : (p : ProductInfo) (s : ℕ) (d : List ℕ) → allHeld p ≡ true → added p s d .number ≡ 0 → added p s d .whole ≡ true
+whole-stays p s d h e = whole-is p s d ∙ rw (e, held-kept p s d h)

@@ -23,7 +23,9 @@ hold-requires : tie.Need-hold-requires
 hold-requires c κs = search needs
 
 returns : tie.Need-returns
-returns c = c .hold .ensures ∙ sym (all-short _ _ (c .before .if1 .taken))
+returns c =
+    let a = c .before .before .before .args in
+    c .hold .ensures ∙ sym (all-short (a .info) (a .«data» .now) (c .before .if1 .taken))
 
 text-at-requires : tie.Need-text-at-requires
 text-at-requires c κs = search needs
@@ -46,7 +48,8 @@ refuse-requires c κs = search needs
 returns-2 : tie.Need-returns-2
 returns-2 c =
     let t = c .before .before .before .before .before .before .before in
-    c .refuse .ensures ∙ sym (all-bad _ _ (t .before .before .before .before .if1 .left) (plain t ∙ not-true _ (c .before .if2 .taken)))
+    let a = t .before .before .before .before .before .before .args in
+    c .refuse .ensures ∙ sym (all-bad (a .info) (a .«data» .now) (t .before .before .before .before .if1 .left) (plain t ∙ not-true _ (c .before .if2 .taken)))
 
 hold-requires-2 : tie.Need-hold-requires-2
 hold-requires-2 c κs = search needs

@@ -17,7 +17,9 @@ hold-requires : tie.Need-hold-requires
 hold-requires c κs = search needs
 
 returns : tie.Need-returns
-returns c = c .hold .ensures ∙ sym (text-short _ _ _ (c .before .if1 .taken))
+returns c =
+    let a = c .before .before .before .args in
+    c .hold .ensures ∙ sym (text-short (a .info) (a .sequence) (a .«data» .now) (c .before .if1 .taken))
 
 text-at-requires : tie.Need-text-at-requires
 text-at-requires c κs = search needs
@@ -42,7 +44,8 @@ refuse-requires c κs = search needs
 returns-3 : tie.Need-returns-3
 returns-3 c =
     let t = c .before .before .before .before in
-    c .refuse .ensures ∙ sym (text-bad _ _ _ (t .before .if1 .left) (plain t ∙ ne-eqb _ 0 (c .before .if2 .left)))
+    let a = t .before .before .before .args in
+    c .refuse .ensures ∙ sym (text-bad (a .info) (a .sequence) (a .«data» .now) (t .before .if1 .left) (plain t ∙ ne-eqb _ 0 (c .before .if2 .left)))
 
 pub add-text-spec : {M : Type 1} → statement M
 add-text-spec =

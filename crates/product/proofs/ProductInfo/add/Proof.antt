@@ -27,7 +27,9 @@ refuse-requires : tie.Need-refuse-requires
 refuse-requires c κs = search needs
 
 returns : tie.Need-returns
-returns c = c .refuse .ensures ∙ sym (add-ill _ _ _ (sym (c .before .before .is-formed .ensures) ∙ not-true (c .before .before .is-formed .result) (c .before .if1 .taken)))
+returns c =
+    let a = c .before .before .before .before .args in
+    c .refuse .ensures ∙ sym (add-ill (a .self) (a .sequence) (a .«data» .now) (sym (c .before .before .is-formed .ensures) ∙ not-true (c .before .before .is-formed .result) (c .before .if1 .taken)))
 
 add-all-requires : tie.Need-add-all-requires
 add-all-requires c κs = search needs
