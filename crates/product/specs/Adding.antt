@@ -1,7 +1,7 @@
 -- What adding a reply keeps and says, whatever the reply. Assumes nothing.
 use Prim.Native.Nat.{ℕ}
 use mathlib.Core.Path.{_≡_, refl, sym, ap, _∙_}
-use mathlib.Core.Bool.{Bool, true, false, not, _&&_, _||_, false≢true}
+use mathlib.Core.Bool.{Bool, true, false, not, _&&_, _||_}
 use mathlib.Core.List.{List}
 use borrow.Author.Tests.{eqb-true}
 use lib.ListN.{length}
@@ -13,6 +13,7 @@ use Rattle.texts.specs.TextLaws.{textAt-formed}
 use Rattle.texts.specs.declared.Text.{Text}
 use Rattle.product.specs.declared.ProductInfo.{ProductInfo}
 use Rattle.product.specs.declared.Added.{Added}
+use Rattle.product.specs.ProductLaws.{each-formed, each-held}
 use Rattle.product.specs.Product.{noInfo, formed, allHeld, refused, held, setsIf, plainAt, plainAll, allAdded, withNumbers, numbersAdded, withText, textAdded, bySequence, added}
 
 -- what holds of both, holds of the one that is picked
@@ -51,18 +52,12 @@ new-formed = refl
 all-formed : {a b c e : Bool} → a ≡ true → b ≡ true → c ≡ true → e ≡ true → (a && b && c && e) ≡ true
 all-formed w x y z = rw (w, x, y, z)
 
-both-true : (a b : Bool) → (a && b) ≡ true → (a ≡ true) × (b ≡ true)
-both-true true b h = (refl, h)
-both-true false b h = absurd (false≢true h)
-
 text-formed : (p : ProductInfo) (s : ℕ) (t : Text) → formed p ≡ true → textFormed t ≡ true → formed (withText p s t) ≡ true
 unfolding withText
 text-formed p s t h g =
     let P : Text → Type 0 = λ u. textFormed u ≡ true in
-    let h₃ = both-true _ _ h in
-    let h₂ = both-true _ _ (h₃ .0) in
-    let h₁ = both-true _ _ (h₂ .0) in
-    all-formed (either P (eqb s 2) g (h₁ .0)) (either P (eqb s 3) g (h₁ .1)) (either P (eqb s 4) g (h₂ .1)) (either P (eqb s 5) g (h₃ .1))
+    let k = each-formed p h in
+    all-formed (either P (eqb s 2) g (k .0)) (either P (eqb s 3) g (k .1)) (either P (eqb s 4) g (k .2)) (either P (eqb s 5) g (k .3))
 
 -- a well-formed information stays well formed
 pub formed-kept : (p : ProductInfo) (s : ℕ) (d : List ℕ) → formed p ≡ true → formed (added p s d .info) ≡ true
@@ -78,14 +73,14 @@ formed-kept p s d h =
 -- The refusals
 
 -- a reply would set a text that is not plain: all four, or one
-abbrev pub spoiltAll : List ℕ → Bool
-spoiltAll d = leb 138 (length d) && not (plainAll d)
+abbrev pub notPlainAll : List ℕ → Bool
+notPlainAll d = leb 138 (length d) && not (plainAll d)
 
-abbrev pub spoiltPart : ℕ → List ℕ → Bool
-spoiltPart s d = leb 2 s && leb s 5 && leb textWidth (length d) && not (plainAt d 0)
+abbrev pub notPlainPart : ℕ → List ℕ → Bool
+notPlainPart s d = leb 2 s && leb s 5 && leb textWidth (length d) && not (plainAt d 0)
 
-abbrev pub spoilt : ℕ → List ℕ → Bool
-spoilt s d = pick (eqb s 6) (spoiltAll d) (spoiltPart s d)
+abbrev pub notPlain : ℕ → List ℕ → Bool
+notPlain s d = pick (eqb s 6) (notPlainAll d) (notPlainPart s d)
 
 sets-number : (l q : Bool) (p a : ProductInfo) → setsIf l q p a .number ≡ pick (l && not q) 15 0
 sets-number true true p a = refl
@@ -112,16 +107,16 @@ ill-number : (t : Bool) (x : Added) (p : ProductInfo) {n : ℕ} → x .number �
 ill-number true x p h = h
 ill-number false x p h = refl
 
-sequence-number : (p : ProductInfo) (s : ℕ) (d : List ℕ) → bySequence p s d .number ≡ pick (spoilt s d) 15 0
+sequence-number : (p : ProductInfo) (s : ℕ) (d : List ℕ) → bySequence p s d .number ≡ pick (notPlain s d) 15 0
 unfolding bySequence allAdded numbersAdded textAdded
 sequence-number p s d =
     let y : Added = pick (leb 2 s && leb s 5) (textAdded p s d) (held p) in
-    six-number (eqb s 6) (allAdded p d) (pick (eqb s 1) (numbersAdded p d) y) (spoiltAll d) (spoiltPart s d) (sets-number (leb 138 (length d)) (plainAll d) p _)
-    (one-number (eqb s 1) s (numbersAdded p d) y (spoiltPart s d) refl (numbers-number (leb 6 (length d)) p _) (λ e. rw e)
+    six-number (eqb s 6) (allAdded p d) (pick (eqb s 1) (numbersAdded p d) y) (notPlainAll d) (notPlainPart s d) (sets-number (leb 138 (length d)) (plainAll d) p _)
+    (one-number (eqb s 1) s (numbersAdded p d) y (notPlainPart s d) refl (numbers-number (leb 6 (length d)) p _) (λ e. rw e)
     (text-number (leb 2 s && leb s 5) (leb textWidth (length d)) (plainAt d 0) p _))
 
 -- 16 before 15, and nothing else is refused
-pub number-is : (p : ProductInfo) (s : ℕ) (d : List ℕ) → added p s d .number ≡ pick (formed p) (pick (spoilt s d) 15 0) 16
+pub number-is : (p : ProductInfo) (s : ℕ) (d : List ℕ) → added p s d .number ≡ pick (formed p) (pick (notPlain s d) 15 0) 16
 unfolding added
 number-is p s d = ill-number (formed p) (bySequence p s d) p (sequence-number p s d)
 
@@ -129,14 +124,6 @@ number-is p s d = ill-number (formed p) (bySequence p s d) p (sequence-number p 
 
 all-held : {a b c e f : Bool} → a ≡ true → b ≡ true → c ≡ true → e ≡ true → f ≡ true → (a && b && c && e && f) ≡ true
 all-held v w x y z = rw (v, w, x, y, z)
-
-each-held : (a b c e f : Bool) → (a && b && c && e && f) ≡ true → (a ≡ true) × (b ≡ true) × (c ≡ true) × (e ≡ true) × (f ≡ true)
-each-held a b c e f h =
-    let h₄ = both-true (a && b && c && e) f h in
-    let h₃ = both-true (a && b && c) e (h₄ .0) in
-    let h₂ = both-true (a && b) c (h₃ .0) in
-    let h₁ = both-true a b (h₂ .0) in
-    (h₁ .0, h₁ .1, h₂ .1, h₃ .1, h₄ .1)
 
 or-held : (t u : Bool) → u ≡ true → (t || u) ≡ true
 or-held true u h = refl
@@ -146,7 +133,7 @@ held-kept : (p : ProductInfo) (s : ℕ) (d : List ℕ) → allHeld p ≡ true �
 unfolding added bySequence allAdded numbersAdded textAdded withText
 held-kept p s d h =
     let P : Added → Type 0 = λ r. allHeld (r .info) ≡ true in
-    let k = each-held (p .parts .numbers) (p .parts .model) (p .parts .software) (p .parts .hardware) (p .parts .serial) h in
+    let k = each-held p h in
     let n : allHeld (withNumbers p (field d 0 2) (field d 2 2)) ≡ true = all-held refl (k .1) (k .2) (k .3) (k .4) in
     let t : allHeld (withText p s (textAt d 0 .text)) ≡ true =
     all-held (k .0) (or-held (eqb s 2) _ (k .1)) (or-held (eqb s 3) _ (k .2)) (or-held (eqb s 4) _ (k .3)) (or-held (eqb s 5) _ (k .4)) in

@@ -7,3 +7,4 @@ pub mod ProductLaws
 pub mod Adding
 -- Worked examples.
 pub mod ProductEdges
+pub mod ProductWorked

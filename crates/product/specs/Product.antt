@@ -8,7 +8,6 @@ use Rattle.field.specs.Pick.{pick}
 use Rattle.field.specs.Fields.{field}
 use Rattle.texts.specs.Texts.{textWidth, noText, textFormed, textAt}
 use Rattle.texts.specs.declared.Text.{Text}
-use Rattle.product.specs.declared.Parts.{Parts}
 use Rattle.product.specs.declared.ProductInfo.{ProductInfo}
 use Rattle.product.specs.declared.Added.{Added}
 

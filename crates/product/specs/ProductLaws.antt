@@ -1,19 +1,43 @@
 -- Laws of adding a reply, one for each case. Assumes nothing.
 use Prim.Native.Nat.{ℕ, _<_, _≤_}
 use native.Mathlib.Omega.{arith}
-use mathlib.Core.Path.{_≡_, refl, sym, ap, _∙_}
-use mathlib.Core.Bool.{true, false, _&&_, and-false}
+use mathlib.Core.Path.{_≡_, refl, sym, _∙_}
+use mathlib.Core.Bool.{Bool, true, false, _&&_, and-false, false≢true}
 use mathlib.Core.List.{List}
 use borrow.Author.Tests.{le-leb, lt-leb, ne-eqb}
 use lib.ListN.{length}
 use lib.Dec.{leb, eqb}
-use Rattle.field.specs.Pick.{pick}
 use Rattle.field.specs.Fields.{field}
-use Rattle.texts.specs.Texts.{textWidth, textAt}
+use Rattle.texts.specs.Texts.{textWidth, textFormed, textAt}
 use Rattle.texts.specs.declared.TextRead.{TextRead}
 use Rattle.product.specs.declared.ProductInfo.{ProductInfo}
-use Rattle.product.specs.declared.Added.{Added}
-use Rattle.product.specs.Product.{formed, refused, held, plainAt, plainAll, allOf, allAdded, withNumbers, numbersAdded, withText, textAdded, bySequence, added}
+use Rattle.product.specs.Product.{formed, allHeld, refused, held, plainAt, plainAll, allOf, allAdded, withNumbers, numbersAdded, withText, textAdded, bySequence, added}
+
+-- Each text and each part
+
+both-true : (a b : Bool) → (a && b) ≡ true → (a ≡ true) × (b ≡ true)
+both-true true b h = (refl, h)
+both-true false b h = absurd (false≢true h)
+
+four-true : (a b c e : Bool) → (a && b && c && e) ≡ true → (a ≡ true) × (b ≡ true) × (c ≡ true) × (e ≡ true)
+four-true a b c e h =
+    let h₃ = both-true (a && b && c) e h in
+    let h₂ = both-true (a && b) c (h₃ .0) in
+    let h₁ = both-true a b (h₂ .0) in
+    (h₁ .0, h₁ .1, h₂ .1, h₃ .1)
+
+-- the four texts of a well-formed information, in the order of the fields
+pub each-formed : (p : ProductInfo) → formed p ≡ true
+    → (textFormed (p .model) ≡ true) × (textFormed (p .«software_version») ≡ true) × (textFormed (p .«hardware_version») ≡ true) × (textFormed (p .«serial_number») ≡ true)
+each-formed p h = four-true (textFormed (p .model)) (textFormed (p .«software_version»)) (textFormed (p .«hardware_version»)) (textFormed (p .«serial_number»)) h
+
+-- the five parts where all are held
+pub each-held : (p : ProductInfo) → allHeld p ≡ true
+    → (p .parts .numbers ≡ true) × (p .parts .model ≡ true) × (p .parts .software ≡ true) × (p .parts .hardware ≡ true) × (p .parts .serial ≡ true)
+each-held p h =
+    let k = both-true (p .parts .numbers && p .parts .model && p .parts .software && p .parts .hardware) (p .parts .serial) h in
+    let f = four-true (p .parts .numbers) (p .parts .model) (p .parts .software) (p .parts .hardware) (k .0) in
+    (f .0, f .1, f .2, f .3, k .1)
 
 -- Sequence 6
 

@@ -1,5 +1,5 @@
 -- Laws of a text as it is held and read. Assumes nothing.
-use Prim.Native.Nat.{ℕ, zero, suc, _+_, _-_, _<_, _≤_}
+use Prim.Native.Nat.{ℕ, _+_, _-_, _<_, _≤_}
 use native.Mathlib.Omega.{arith}
 use native.Mathlib.Nat.{zero-add, le-trans}
 use native.Mathlib.Numerals.{add-one}
@@ -9,12 +9,10 @@ use mathlib.Core.List.{List, [], _++_}
 use borrow.Author.Tests.{le-leb}
 use lib.ListN.{length, set, getD, take, drop, replicate, length-take, length-drop, drop-of-length-le}
 use lib.Seq.{paste, paste-suc, take-length, take-all, take-append-seam}
-use lib.Dec.{eqb}
 use Rattle.field.specs.Pick.{pick}
 use Rattle.field.specs.Written.{written}
-use Rattle.texts.specs.declared.Text.{Text}
 use Rattle.texts.specs.declared.TextRead.{TextRead}
-use Rattle.texts.specs.Texts.{textMax, textWidth, textOf, noText, bytesIn, textFormed, cut, allPlain, leading, trimRight, trimmed, textRead, lent, textAt}
+use Rattle.texts.specs.Texts.{textMax, textWidth, textOf, noText, bytesIn, textFormed, cut, allPlain, leading, trimmed, textRead, lent, textAt}
 use Rattle.texts.specs.TrimLaws.{cut-long, trim-long}
 
 -- Held

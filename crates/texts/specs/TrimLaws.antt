@@ -89,10 +89,10 @@ keep-some true b w [] = refl
 keep-some true b w (x ∷ l) = refl
 keep-some false b w l = refl
 
-pub trim-ink : (l : List ℕ) (w : ℕ) → isWhite w ≡ false → trimRight (l ++ (w ∷ [])) ≡ l ++ (w ∷ [])
+pub trim-kept : (l : List ℕ) (w : ℕ) → isWhite w ≡ false → trimRight (l ++ (w ∷ [])) ≡ l ++ (w ∷ [])
 unfolding trimRight
-trim-ink [] w e = rw e
-trim-ink (b ∷ l) w e = ap (keep (isWhite b) b) (trim-ink l w e) ∙ keep-some (isWhite b) b w l
+trim-kept [] w e = rw e
+trim-kept (b ∷ l) w e = ap (keep (isWhite b) b) (trim-kept l w e) ∙ keep-some (isWhite b) b w l
 
 keep-take : (t : Bool) (b : ℕ) (k l : List ℕ) → k ≡ take (length k) l → keep t b k ≡ take (length (keep t b k)) (b ∷ l)
 keep-take true b [] l e = refl
@@ -130,7 +130,7 @@ cut-is d e h =
 pub rest-is : (s : List ℕ) (a : ℕ) → a ≡ leading s → take (length s - a) (drop a s) ≡ drop (leading s) s
 rest-is s a h = rw h (take-all (length s - leading s) (drop (leading s) s) (simp length-drop (omega arith)))
 
-pub ink-is : (t : List ℕ) (k : ℕ) → k ≡ length (trimRight t) → take (k - 0) t ≡ trimRight t
-ink-is t k h =
+pub trimmed-is : (t : List ℕ) (k : ℕ) → k ≡ length (trimRight t) → take (k - 0) t ≡ trimRight t
+trimmed-is t k h =
     let z : k - 0 ≡ length (trimRight t) = omega arith in
     rw z (sym (trim-take t))

@@ -13,7 +13,7 @@ pub const TEXT_MAX: usize = 32;
 pub const TEXT_WIDTH: usize = 32;
 
 pub struct Text {
-    pub bytes: [u8; 32],
+    pub bytes: [u8; TEXT_MAX],
     pub count: usize,
 }
 
@@ -28,7 +28,7 @@ impl Text {
         ensures { λ r. ⌜ r ≡ noText ⌝ }
     {
         Text {
-            bytes: [0u8; 32],
+            bytes: [0u8; TEXT_MAX],
             count: 0,
         }
     }
@@ -45,7 +45,7 @@ fn text_of(s: &[u8]) -> Text
     requires { ⌜ length (now s) ≤ textMax ⌝ }
     ensures { λ r. ⌜ r ≡ textOf (now (s .entry)) ⌝ }
 {
-    let mut bytes = [0u8; 32];
+    let mut bytes = [0u8; TEXT_MAX];
     let mut i: usize = 0;
     while i < s.len() {
         bytes[i] = s[i];
@@ -113,7 +113,7 @@ fn skip_white(s: &[u8]) -> usize
 }
 
 // How long a list is without the white bytes that it ends with.
-fn last_ink(s: &[u8]) -> usize
+fn trimmed_len(s: &[u8]) -> usize
     ensures { λ r. ⌜ r ≡ length (trimRight (now (s .entry))) ⌝ }
 {
     let mut k = s.len();
@@ -142,7 +142,7 @@ fn text_read(d: &[u8]) -> TextRead
     }
     let a = skip_white(s);
     let t = &s[a..];
-    let k = last_ink(t);
+    let k = trimmed_len(t);
     let text = text_of(&t[0..k]);
     TextRead { number: 0, text }
 }

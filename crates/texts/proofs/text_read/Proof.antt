@@ -9,7 +9,7 @@ use borrow.Author.Tests.{not-true, not-false}
 use lib.ListN.{length, take, drop}
 use Rattle.texts.specs.declared.Text.{Text}
 use Rattle.texts.specs.Texts.{cut, allPlain, leading, trimRight, textOf}
-use Rattle.texts.specs.TrimLaws.{cut-long, lead-long, trim-long, cut-is, rest-is, ink-is}
+use Rattle.texts.specs.TrimLaws.{cut-long, lead-long, trim-long, cut-is, rest-is, trimmed-is}
 use Rattle.texts.specs.TextLaws.{read-good, read-bad, part-short}
 use Rattle.texts.proofs.text_read.Statement.{statement}
 use Rattle.texts.proofs.text_read.Tie as tie
@@ -68,8 +68,8 @@ part-t-start c = omega (arith, c .skip-white .ensures, lead-long (S (E c)))
 part-t-end : tie.Need-part-t-end
 part-t-end c = search needs
 
-last-ink-requires : tie.Need-last-ink-requires
-last-ink-requires c κs = search needs
+trimmed-len-requires : tie.Need-trimmed-len-requires
+trimmed-len-requires c κs = search needs
 
 sub-text-of : tie.Need-sub-text-of
 sub-text-of c = search needs
@@ -78,13 +78,13 @@ part-text-of-start : tie.Need-part-text-of-start
 part-text-of-start c = search needs
 
 part-text-of-end : tie.Need-part-text-of-end
-part-text-of-end c = omega (arith, c .last-ink .ensures, trim-long (R (c .before .before)))
+part-text-of-end c = omega (arith, c .trimmed-len .ensures, trim-long (R (c .before .before)))
 
 text-of-requires : tie.Need-text-of-requires
 text-of-requires c κs =
     let w = c .before .before .before in
     let d = E w .before .before .args .d .now in
-    le-trans (part-short (c .before .last-ink .result - 0) (length (S (E w)) - w .skip-white .result) (w .skip-white .result) (E w .end-of .result - 0) d) (E w .before .before .pre)
+    le-trans (part-short (c .before .trimmed-len .result - 0) (length (S (E w)) - w .skip-white .result) (w .skip-white .result) (E w .end-of .result - 0) d) (E w .before .before .pre)
 
 returns-2 : tie.Need-returns-2
 returns-2 c =
@@ -92,8 +92,8 @@ returns-2 c =
     let e = E w in
     let p = w .before .before .is-plain in
     let d = e .before .before .args .d .now in
-    let k = c .before .before .last-ink in
-    ap (λ (x : Text). record { number = 0; text = x }) (c .text-of .ensures ∙ ap textOf (ink-is (R w) (k .result) (k .ensures) ∙ ap trimRight (r-is w)))
+    let k = c .before .before .trimmed-len in
+    ap (λ (x : Text). record { number = 0; text = x }) (c .text-of .ensures ∙ ap textOf (trimmed-is (R w) (k .result) (k .ensures) ∙ ap trimRight (r-is w)))
     ∙ read-good d (ap allPlain (sym (s-is e)) ∙ sym (p .ensures) ∙ not-false (p .result) (w .before .if1 .left))
 
 pub text-read-spec : {M : Type 1} → statement M
@@ -111,7 +111,7 @@ text-read-spec =
     sub-t
     part-t-start
     part-t-end
-    last-ink-requires
+    trimmed-len-requires
     sub-text-of
     part-text-of-start
     part-text-of-end

@@ -1,4 +1,4 @@
--- `texts::last_ink` meets its contract. Assumes nothing.
+-- `texts::trimmed_len` meets its contract. Assumes nothing.
 use Prim.Native.Nat.{_-_, _≤_}
 use native.Mathlib.Omega.{arith}
 use mathlib.Core.Path.{_≡_, sym, ap, _∙_}
@@ -7,9 +7,9 @@ use borrow.Author.Tests.{not-true, not-false}
 use lib.ListN.{length, take, getD}
 use lib.Seq.{take-length, length-take-le}
 use Rattle.texts.specs.Texts.{trimRight}
-use Rattle.texts.specs.TrimLaws.{front, trim-white, trim-ink}
-use Rattle.texts.proofs.last_ink.Statement.{statement}
-use Rattle.texts.proofs.last_ink.Tie as tie
+use Rattle.texts.specs.TrimLaws.{front, trim-white, trim-kept}
+use Rattle.texts.proofs.trimmed_len.Statement.{statement}
+use Rattle.texts.proofs.trimmed_len.Tie as tie
 
 abbrev Inv-loop : tie.InvT-loop
 Inv-loop s k₀ k = (k ≤ length s) × (trimRight (take k s) ≡ trimRight s)
@@ -35,7 +35,7 @@ returns c =
     let w = c .before .is-white in
     let s = c .before .before .before .before .before .before .args .s .now in
     let f = front s (v .k) (omega arith) (v .inv .0) in
-    let e : trimRight s ≡ take (v .k) s = sym (v .inv .1) ∙ ap trimRight f ∙ trim-ink (take (v .k - 1) s) (getD s (v .k - 1) 0) (sym (w .ensures) ∙ not-true (w .result) (c .if1 .taken)) ∙ sym f in
+    let e : trimRight s ≡ take (v .k) s = sym (v .inv .1) ∙ ap trimRight f ∙ trim-kept (take (v .k - 1) s) (getD s (v .k - 1) 0) (sym (w .ensures) ∙ not-true (w .result) (c .if1 .taken)) ∙ sym f in
     sym (ap length e ∙ length-take-le (v .k) s (v .inv .0))
 
 loop-less : tie.Need-loop-less Inv-loop μ-loop
@@ -54,8 +54,8 @@ returns-2 c =
     let z : c .before .loop .k ≡ 0 = omega arith in
     ap length (rw z at (c .before .loop .inv .1))
 
-pub last-ink-spec : {M : Type 1} → statement M
-last-ink-spec =
+pub trimmed-len-spec : {M : Type 1} → statement M
+trimmed-len-spec =
     tie.close
     (tie.spec
     Inv-loop
