@@ -14,7 +14,7 @@ use Rattle.texts.specs.declared.Text.{Text}
 use Rattle.product.specs.declared.ProductInfo.{ProductInfo}
 use Rattle.product.specs.declared.Added.{Added}
 use Rattle.product.specs.ProductLaws.{each-formed, each-held}
-use Rattle.product.specs.Product.{noInfo, formed, allHeld, refused, held, setsIf, plainAt, plainAll, allAdded, withNumbers, numbersAdded, withText, textAdded, bySequence, added}
+use Rattle.product.specs.Product.{noInfo, formed, allHeld, refused, held, setsIf, plainAt, plainAll, allIn, allAdded, withNumbers, numbersAdded, withText, textAdded, bySequence, added}
 
 -- what holds of both, holds of the one that is picked
 either : {A : Type 0} (P : A → Type 0) (t : Bool) {a b : A} → P a → P b → P (pick t a b)
@@ -22,27 +22,33 @@ either P true x y = x
 either P false x y = y
 
 sets-either : (P : Added → Type 0) (l q : Bool) {p a : ProductInfo} → P (held a) → P (refused p 15) → P (held p) → P (setsIf l q p a)
-sets-either P true true x y z = x
-sets-either P true false x y z = y
-sets-either P false q x y z = z
+sets-either P l q x y z = either P l (either P q x y) z
 
--- every answer is a refusal that hands back what was handed in, or holds something
-every : (P : Added → Type 0) (p : ProductInfo) (s : ℕ) (d : List ℕ) → P (refused p 16) → P (refused p 15) → ((q : ProductInfo) → P (held q)) → P (added p s d)
+-- the answers that there are: two refusals, and four in which the parts that are now held are told
+pub every : (P : Added → Type 0) (p : ProductInfo) (s : ℕ) (d : List ℕ)
+    → P (refused p 16)
+    → P (refused p 15)
+    → P (held p)
+    → P (held (allIn d))
+    → P (held (withNumbers p (field d 0 2) (field d 2 2)))
+    → P (held (withText p s (textAt d 0 .text)))
+    → P (added p s d)
 unfolding added bySequence allAdded numbersAdded textAdded
-every P p s d r₁₆ r₁₅ h =
+every P p s d r₁₆ r₁₅ h a n t =
     either P (formed p)
-    (either P (eqb s 6) (sets-either P (leb 138 (length d)) (plainAll d) (h _) r₁₅ (h p))
-    (either P (eqb s 1) (sets-either P (leb 6 (length d)) true (h _) r₁₅ (h p))
-    (either P (leb 2 s && leb s 5) (sets-either P (leb textWidth (length d)) (plainAt d 0) (h _) r₁₅ (h p)) (h p))))
+    (either P (eqb s 6) (sets-either P (leb 138 (length d)) (plainAll d) a r₁₅ h)
+    (either P (eqb s 1) (sets-either P (leb 6 (length d)) true n r₁₅ h)
+    (either P (leb 2 s && leb s 5) (sets-either P (leb textWidth (length d)) (plainAt d 0) t r₁₅ h) h)))
     r₁₆
 
--- a refusal leaves the information as it was
+-- a refusal leaves the product info as it was
 pub refusal-keeps : (p : ProductInfo) (s : ℕ) (d : List ℕ) → (added p s d .number ≡ 0 → ⊥) → added p s d .info ≡ p
-refusal-keeps p s d = every (λ r. (r .number ≡ 0 → ⊥) → r .info ≡ p) p s d (λ n. refl) (λ n. refl) (λ q n. absurd (n refl))
+refusal-keeps p s d =
+    every (λ r. (r .number ≡ 0 → ⊥) → r .info ≡ p) p s d (λ n. refl) (λ n. refl) (λ n. refl) (λ n. absurd (n refl)) (λ n. absurd (n refl)) (λ n. absurd (n refl))
 
 -- it says yes exactly if nothing was refused and all five parts are held
 pub whole-is : (p : ProductInfo) (s : ℕ) (d : List ℕ) → added p s d .whole ≡ (eqb (added p s d .number) 0 && allHeld (added p s d .info))
-whole-is p s d = every (λ r. r .whole ≡ (eqb (r .number) 0 && allHeld (r .info))) p s d refl refl (λ q. refl)
+whole-is p s d = every (λ r. r .whole ≡ (eqb (r .number) 0 && allHeld (r .info))) p s d refl refl refl refl refl refl
 
 -- Well formed
 
@@ -59,16 +65,12 @@ text-formed p s t h g =
     let k = each-formed p h in
     all-formed (either P (eqb s 2) g (k .0)) (either P (eqb s 3) g (k .1)) (either P (eqb s 4) g (k .2)) (either P (eqb s 5) g (k .3))
 
--- a well-formed information stays well formed
+-- a well-formed product info stays well formed
 pub formed-kept : (p : ProductInfo) (s : ℕ) (d : List ℕ) → formed p ≡ true → formed (added p s d .info) ≡ true
-unfolding added bySequence allAdded numbersAdded textAdded
 formed-kept p s d h =
-    let P : Added → Type 0 = λ r. formed (r .info) ≡ true in
-    either P (formed p)
-    (either P (eqb s 6) (sets-either P (leb 138 (length d)) (plainAll d) (all-formed (textAt-formed d 8) (textAt-formed d 40) (textAt-formed d 72) (textAt-formed d 104)) h h)
-    (either P (eqb s 1) (sets-either P (leb 6 (length d)) true h h h)
-    (either P (leb 2 s && leb s 5) (sets-either P (leb textWidth (length d)) (plainAt d 0) (text-formed p s (textAt d 0 .text) h (textAt-formed d 0)) h h) h)))
-    h
+    every (λ r. formed (r .info) ≡ true) p s d h h h
+    (all-formed (textAt-formed d 8) (textAt-formed d 40) (textAt-formed d 72) (textAt-formed d 104)) h
+    (text-formed p s (textAt d 0 .text) h (textAt-formed d 0))
 
 -- The refusals
 
@@ -125,23 +127,17 @@ number-is p s d = ill-number (formed p) (bySequence p s d) p (sequence-number p 
 all-held : {a b c e f : Bool} → a ≡ true → b ≡ true → c ≡ true → e ≡ true → f ≡ true → (a && b && c && e && f) ≡ true
 all-held v w x y z = rw (v, w, x, y, z)
 
-or-held : (t u : Bool) → u ≡ true → (t || u) ≡ true
-or-held true u h = refl
-or-held false u h = h
+or-held : (t : Bool) {u : Bool} → u ≡ true → (t || u) ≡ true
+or-held true h = refl
+or-held false h = h
 
-held-kept : (p : ProductInfo) (s : ℕ) (d : List ℕ) → allHeld p ≡ true → allHeld (added p s d .info) ≡ true
-unfolding added bySequence allAdded numbersAdded textAdded withText
+pub held-kept : (p : ProductInfo) (s : ℕ) (d : List ℕ) → allHeld p ≡ true → allHeld (added p s d .info) ≡ true
+unfolding withText
 held-kept p s d h =
-    let P : Added → Type 0 = λ r. allHeld (r .info) ≡ true in
     let k = each-held p h in
-    let n : allHeld (withNumbers p (field d 0 2) (field d 2 2)) ≡ true = all-held refl (k .1) (k .2) (k .3) (k .4) in
-    let t : allHeld (withText p s (textAt d 0 .text)) ≡ true =
-    all-held (k .0) (or-held (eqb s 2) _ (k .1)) (or-held (eqb s 3) _ (k .2)) (or-held (eqb s 4) _ (k .3)) (or-held (eqb s 5) _ (k .4)) in
-    either P (formed p)
-    (either P (eqb s 6) (sets-either P (leb 138 (length d)) (plainAll d) refl h h)
-    (either P (eqb s 1) (sets-either P (leb 6 (length d)) true n h h)
-    (either P (leb 2 s && leb s 5) (sets-either P (leb textWidth (length d)) (plainAt d 0) t h h) h)))
-    h
+    every (λ r. allHeld (r .info) ≡ true) p s d h h h refl
+    (all-held refl (k .1) (k .2) (k .3) (k .4))
+    (all-held (k .0) (or-held (eqb s 2) (k .1)) (or-held (eqb s 3) (k .2)) (or-held (eqb s 4) (k .3)) (or-held (eqb s 5) (k .4)))
 
 -- with all five parts held it says yes to every reply that it does not refuse
 pub whole-stays : (p : ProductInfo) (s : ℕ) (d : List ℕ) → allHeld p ≡ true → added p s d .number ≡ 0 → added p s d .whole ≡ true

@@ -51,7 +51,7 @@ plainAt d at = eqb (textAt d at .number) 0
 abbrev pub plainAll : List ℕ → Bool
 plainAll d = plainAt d 8 && plainAt d 40 && plainAt d 72 && plainAt d 104
 
--- all parts of a reply, with the four texts: "version at 4, code at 6"
+-- what is held after a reply of sequence 6 with these four texts
 abbrev pub allOf : List ℕ → Text → Text → Text → Text → ProductInfo
 allOf d m s h n = record {
   «nmea2000_version» = field d 4 2;
@@ -63,10 +63,13 @@ allOf d m s h n = record {
   parts = record { numbers = true; model = true; software = true; hardware = true; serial = true };
 }
 
--- "sequence 6 with at least 138 data bytes sets all; version at 4, code at 6, texts of 32 at 8, 40, 72, 104"
+-- "version at 4, code at 6, texts of 32 at 8, 40, 72, 104"
+abbrev pub allIn : List ℕ → ProductInfo
+allIn d = allOf d (textAt d 8 .text) (textAt d 40 .text) (textAt d 72 .text) (textAt d 104 .text)
+
+-- "sequence 6 with at least 138 data bytes sets all"
 unfoldable pub allAdded : ProductInfo → List ℕ → Added
-allAdded p d =
-    setsIf (leb 138 (length d)) (plainAll d) p (allOf d (textAt d 8 .text) (textAt d 40 .text) (textAt d 72 .text) (textAt d 104 .text))
+allAdded p d = setsIf (leb 138 (length d)) (plainAll d) p (allIn d)
 
 -- the numbers are set, and their part is held
 abbrev pub withNumbers : ProductInfo → ℕ → ℕ → ProductInfo

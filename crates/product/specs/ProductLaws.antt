@@ -11,7 +11,7 @@ use Rattle.field.specs.Fields.{field}
 use Rattle.texts.specs.Texts.{textWidth, textFormed, textAt}
 use Rattle.texts.specs.declared.TextRead.{TextRead}
 use Rattle.product.specs.declared.ProductInfo.{ProductInfo}
-use Rattle.product.specs.Product.{formed, allHeld, refused, held, plainAt, plainAll, allOf, allAdded, withNumbers, numbersAdded, withText, textAdded, bySequence, added}
+use Rattle.product.specs.Product.{formed, allHeld, refused, held, plainAt, plainAll, allOf, allIn, allAdded, withNumbers, numbersAdded, withText, textAdded, bySequence, added}
 
 -- Each text and each part
 
@@ -50,7 +50,7 @@ unfolding allAdded
 all-bad p d h e = rw (le-leb 138 (length d) h, e)
 
 pub all-set : (p : ProductInfo) (d : List ℕ) → 138 ≤ length d → plainAll d ≡ true
-    → allAdded p d ≡ held (allOf d (textAt d 8 .text) (textAt d 40 .text) (textAt d 72 .text) (textAt d 104 .text))
+    → allAdded p d ≡ held (allIn d)
 unfolding allAdded
 all-set p d h e = rw (le-leb 138 (length d) h, e)
 
