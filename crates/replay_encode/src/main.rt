@@ -1,4 +1,4 @@
-// Replays the calls of the encoders, modules 1, 2 and 4 (oracle/FORMAT.md): a script from standard input, a block of 65,536 bytes at a time, each from nothing.
+// Replays calls of the encoders, modules 1, 2 and 4 (oracle/FORMAT.md): a script from standard input, a block of 65,536 bytes at a time.
 // What the calls do is proved in framing, records and commands; here they are only read, made and answered.
 use libc::STDIN_FILENO;
 use libc::STDOUT_FILENO;
