@@ -8,3 +8,4 @@ pub mod Adding
 -- Worked examples.
 pub mod ProductEdges
 pub mod ProductWorked
+pub mod Stored

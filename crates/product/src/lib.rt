@@ -2,7 +2,12 @@
 // Newer firmware answers at once (sequence 6), older firmware in five parts (sequences 1 to 5).
 // Numbers: 16, a text's count passes its capacity; 15, a byte 80 to FE before the end of a text that the reply would set.
 ghost use mathlib.Core.Path.{_≡_};
+ghost use Prim.Native.Nat.{_≤_};
+ghost use lib.ListN.{length, take};
+ghost use Rattle.firmware.specs.Version.{firmwareOf, toldFirmware};
+ghost use Rattle.product.specs.Stored.{toldRead, firmwareIn};
 ghost use Rattle.product.specs.Product.{noInfo, formed, refused, held, withNumbers, withText, allOf, allAdded, numbersAdded, textAdded, added};
+use firmware::Firmware;
 use texts::Text;
 
 // Which parts are held.
@@ -29,6 +34,13 @@ pub struct Added {
     pub info: ProductInfo,
     pub number: u8,
     pub whole: bool,
+}
+
+// The firmware version times 1000 in the software text, if there is one, or the number of the refusal.
+pub enum FirmwareRead {
+    Version(u16),
+    Unknown,
+    Refused(u8),
 }
 
 impl ProductInfo {
@@ -69,6 +81,28 @@ impl ProductInfo {
             _ => hold(self),
         }
     }
+
+    // The firmware that the software text names. Refuses with 16 a product that is not well formed.
+    pub fn firmware(self) -> FirmwareRead
+        ensures { λ r. ⌜ toldRead r ≡ firmwareIn self ⌝ }
+    {
+        if !is_formed(self) {
+            return FirmwareRead::Refused(16);
+        }
+        let software = self.software_version;
+        match firmware_in(&software.bytes, software.count) {
+            Firmware::Version(v) => FirmwareRead::Version(v),
+            Firmware::Unknown => FirmwareRead::Unknown,
+        }
+    }
+}
+
+// The firmware that the first bytes name, so many of them.
+fn firmware_in(bytes: &[u8], count: usize) -> Firmware
+    requires { ⌜ count ≤ length (now bytes) ⌝ }
+    ensures { λ r. ⌜ toldFirmware r ≡ firmwareOf (take count (now (bytes .entry))) ⌝ }
+{
+    firmware::firmware_of(&bytes[0..count])
 }
 
 // Whether no text's count passes its capacity.
