@@ -8,7 +8,6 @@ mod record; // record.rt: records
 mod reply; // reply.rt: replies
 mod product_calls; // product_calls.rt: calls of the product info
 mod stored; // stored.rt: product infos of any stored state
-mod temp; // temp
 mod tell; // tell.rt: modes, parts, texts and firmware in an answer
 
 // Whether there was a block.

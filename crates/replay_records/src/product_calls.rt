@@ -1,13 +1,13 @@
 // Calls of the product info. The block's product info stands beside the place after the last answer.
+use crate::tell::put_found;
 use crate::tell::put_product;
-use crate::temp::FirmwareRead;
+use product::FirmwareRead;
 use product::ProductInfo;
 use replies::data_of;
 use replies::header;
 use transcript::close;
 use transcript::open;
 use transcript::put;
-use transcript::put_u16;
 
 pub(crate) const PROD_RESET: u8 = 0x38;
 
@@ -82,20 +82,23 @@ pub(crate) fn look(info: ProductInfo, out: &mut [u8], n: usize) -> usize {
     end
 }
 
-// 0; or 1 and the version.
-fn tell_version(some: u8, version: u16, op: u8, out: &mut [u8], n: usize) -> usize {
-    let body = open(out, n, op, 0);
-    let a = put(out, body, some);
-    let end = if some == 0 { a } else { put_u16(out, a, version) };
-    close(out, body, end);
-    end
+// 0, or the number of the refusal.
+fn refusal_of(read: FirmwareRead) -> u8 {
+    match read {
+        FirmwareRead::Refused(number) => number,
+        _ => 0,
+    }
 }
 
 // FIRMWARE_OF and FIRMWARE_IN.
-pub(crate) fn firmware_told(info: ProductInfo, op: u8, out: &mut [u8], n: usize) -> usize {
-    match crate::temp::firmware(info) {
-        FirmwareRead::Version(version) => tell_version(1, version, op, out, n),
-        FirmwareRead::Unknown => tell_version(0, 0, op, out, n),
-        FirmwareRead::Refused(number) => open(out, n, op, number),
+pub(crate) fn tell_firmware(info: ProductInfo, op: u8, out: &mut [u8], n: usize) -> usize {
+    let read = info.firmware();
+    let number = refusal_of(read);
+    let body = open(out, n, op, number);
+    if number != 0 {
+        return body;
     }
+    let end = put_found(out, body, read);
+    close(out, body, end);
+    end
 }

@@ -8,10 +8,10 @@ use crate::product_calls::PROD_RESET;
 use crate::product_calls::PROD_TAKE;
 use crate::product_calls::Turn;
 use crate::product_calls::add;
-use crate::product_calls::replace;
-use crate::product_calls::firmware_told;
 use crate::product_calls::look;
+use crate::product_calls::replace;
 use crate::product_calls::take;
+use crate::product_calls::tell_firmware;
 use crate::record::N2K_READ;
 use crate::record::read;
 use crate::reply::MODE;
@@ -38,7 +38,7 @@ fn other(op: u8, body: &[u8], out: &mut [u8], n: usize) -> usize {
         MODE => mode(body, out, n),
         STARTUP => startup(body, out, n),
         RESPONSE => response(body, out, n),
-        FIRMWARE_IN => firmware_told(with_software(body), op, out, n),
+        FIRMWARE_IN => tell_firmware(with_software(body), op, out, n),
         _ => open(out, n, op, 254),
     }
 }
@@ -47,7 +47,7 @@ fn other(op: u8, body: &[u8], out: &mut [u8], n: usize) -> usize {
 fn asked(info: ProductInfo, op: u8, body: &[u8], out: &mut [u8], n: usize) -> usize {
     match op {
         PROD_LOOK => look(info, out, n),
-        FIRMWARE_OF => firmware_told(info, op, out, n),
+        FIRMWARE_OF => tell_firmware(info, op, out, n),
         _ => other(op, body, out, n),
     }
 }

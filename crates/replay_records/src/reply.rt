@@ -25,10 +25,10 @@ pub(crate) const RESPONSE: u8 = 0x33;
 
 // The 32 bits of a signed number.
 fn unsigned(x: i32) -> u32 {
-    if x < 0 {
-        4294967295 - ((-1 - x) as u32)
-    } else {
+    if x >= 0 {
         x as u32
+    } else {
+        4294967295 - ((0 - (x + 1)) as u32)
     }
 }
 
@@ -90,19 +90,26 @@ pub(crate) fn startup(payload: &[u8], out: &mut [u8], n: usize) -> usize {
     end
 }
 
-// All that is told of a payload, refused or not.
-pub(crate) fn response(payload: &[u8], out: &mut [u8], n: usize) -> usize {
-    let h = header(payload);
-    let data = data_of(payload);
-    let s = startup_status(data);
-    let body = open(out, n, RESPONSE, 0);
-    let a = put(out, body, h.number);
+// The number, the header, and the data with their length.
+fn put_parsed(out: &mut [u8], n: usize, h: BemHeader, data: &[u8]) -> usize {
+    let a = put(out, n, h.number);
     let b = put_header(out, a, h);
     let c = put_count(out, b, data.len());
-    let d = put_bytes(out, c, data);
-    let e = put_response_mode(out, d, reported_mode(payload));
-    let f = put(out, e, s.number);
-    let end = put_status(out, f, s);
+    put_bytes(out, c, data)
+}
+
+// The number of `startup_status`, version and status.
+fn put_startup(out: &mut [u8], n: usize, s: Startup) -> usize {
+    let a = put(out, n, s.number);
+    put_status(out, a, s)
+}
+
+// All that is told of a payload, refused or not.
+pub(crate) fn response(payload: &[u8], out: &mut [u8], n: usize) -> usize {
+    let body = open(out, n, RESPONSE, 0);
+    let a = put_parsed(out, body, header(payload), data_of(payload));
+    let b = put_response_mode(out, a, reported_mode(payload));
+    let end = put_startup(out, b, startup_status(data_of(payload)));
     close(out, body, end);
     end
 }

@@ -51,10 +51,11 @@ pub(crate) fn raw(call: &[u8]) -> ProductInfo {
 pub(crate) fn with_software(call: &[u8]) -> ProductInfo {
     let mut bytes = [0u8; TEXT_MAX];
     put_bytes(&mut bytes, 0, rest(call, 1));
-    let mut info = ProductInfo::new();
-    info.software_version = Text {
+    let text = Text {
         bytes,
         count: byte_at(call, 0) as usize,
     };
+    let mut info = ProductInfo::new();
+    info.software_version = text;
     info
 }

@@ -1,12 +1,10 @@
 // Modes, parts, texts and firmware in an answer. Each `put_` function returns the place after what it put.
-use crate::temp::FirmwareRead;
+use product::FirmwareRead;
 use product::Parts;
 use product::ProductInfo;
 use replies::ModeFound;
 use replies::OperatingMode;
-use texts::TEXT_MAX;
 use texts::Text;
-use transcript::min;
 use transcript::put;
 use transcript::put_bytes;
 use transcript::put_u16;
@@ -54,20 +52,33 @@ fn bits_of(parts: Parts) -> u8 {
         | bit(parts.serial, 32)
 }
 
+// The first bytes of a slice, as far as they are there.
+fn first(s: &[u8], count: usize) -> &[u8] {
+    if s.len() < count {
+        return s;
+    }
+    &s[0..count]
+}
+
 // The count as it is, and the bytes of the text, at most 32.
 fn put_text(out: &mut [u8], n: usize, text: Text) -> usize {
     let a = put(out, n, (text.count % 256) as u8);
-    let len = min(text.count, TEXT_MAX);
-    let bytes = text.bytes;
-    put_bytes(out, a, &bytes[..len])
+    put_bytes(out, a, first(&text.bytes, text.count))
 }
 
-// A refusal counts as nothing found.
+// 0; or 1 and the version.
+pub(crate) fn put_found(out: &mut [u8], n: usize, read: FirmwareRead) -> usize {
+    match read {
+        FirmwareRead::Version(version) => put_pair(out, n, 1, version),
+        _ => put(out, n, 0),
+    }
+}
+
+// The same at its full width, 0 where nothing was found or the product is refused.
 fn put_firmware(out: &mut [u8], n: usize, read: FirmwareRead) -> usize {
     match read {
         FirmwareRead::Version(version) => put_pair(out, n, 1, version),
-        FirmwareRead::Unknown => put_pair(out, n, 0, 0),
-        FirmwareRead::Refused(_) => put_pair(out, n, 0, 0),
+        _ => put_pair(out, n, 0, 0),
     }
 }
 
@@ -80,5 +91,5 @@ pub(crate) fn put_product(out: &mut [u8], n: usize, info: ProductInfo) -> usize 
     let e = put_text(out, d, info.software_version);
     let f = put_text(out, e, info.hardware_version);
     let g = put_text(out, f, info.serial_number);
-    put_firmware(out, g, crate::temp::firmware(info))
+    put_firmware(out, g, info.firmware())
 }
