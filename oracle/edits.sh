@@ -1,6 +1,6 @@
 #!/usr/bin/env bash
 # edits.sh [LABEL..]: wrong versions, each of which `compare quick` must find: edits of canboat's Rust, of the refusals and of the
-# port's framing (edits/*.txt; their form and what each does: README.md). A line for each; the last one is 'N edits, N found'.
+# port's crates (edits/*.txt; their form and what each does: README.md). A line for each; the last one is 'N edits, N found'.
 # Exit 1 if one is not found, does not apply or does not build. SEED=n takes other cases, JOBS=n so many at a time (2),
 # TABLE=FILE writes the list as a table as well.
 set -u -o pipefail
@@ -116,21 +116,25 @@ prepare() {
     done
 }
 
-# prepare_port DIR: the crates, with quick's script for replay_framing's input. rt try takes no more than 1 MiB of output, so the
-# program is made to write a word for each block in place of its transcript.
+# prepare_port DIR PROGRAM: the crates, once, with quick's script for the program's input. rt try takes no more than 1 MiB of output,
+# so the program is made to write a word for each block in place of its transcript.
 prepare_port() {
-    local crate=$1/port/crates/replay_framing
-    mkdir "$1/port"
-    cp -r "$here/../crates.txt" "$here/../crates" "$1/port"
-    git init --quiet "$1/port"
+    local crate=$1/port/crates/$2
+    if [ ! -d "$1/port" ]; then
+        mkdir "$1/port"
+        cp -r "$here/../crates.txt" "$here/../crates" "$1/port"
+        git init --quiet "$1/port"
+    fi
+    [ -d "$crate" ] || fail "there is no crate $2"
     replace "$crate/src/main.rt" '    io::write_all(STDOUT_FILENO, &out[..n])' '    let mut word = [0u8; 4];
     transcript::put_u32(&mut word, 0, transcript::sum(&out[..n]));
-    io::write_all(STDOUT_FILENO, &word)' || fail "replay_framing's main is not as it was"
-    "$oracle" script replay_framing quick "$seed" >"$crate/stdin"
+    io::write_all(STDOUT_FILENO, &word)' || fail "$2's main does not end by writing its transcript"
+    "$oracle" script "$2" quick "$seed" >"$crate/stdin"
     "$oracle" words <"$crate/stdin" >"$crate/stdout"
     # without an edit
-    try_port "$1" >"$1/unedited"
-    grep -qx 'NOT FOUND' "$1/unedited" || fail "the port with no edit: $(cat "$1/unedited")"
+    try_program "$1" "$2" >"$1/unedited"
+    grep -qx 'NOT FOUND' "$1/unedited" || fail "$2 with no edit: $(cat "$1/unedited")"
+    : >"$1/port/$2.prepared"
 }
 
 # build DIR
@@ -165,11 +169,11 @@ try_rust() {
     echo "$part, $calls$panics"
 }
 
-# try_port DIR
-try_port() {
+# try_program DIR PROGRAM: the same for the port, as it stands in the worker's copy, run by one program.
+try_program() {
     local byte run
     command -v rt >/dev/null 2>&1 || { echo "NOT RUN: rt is not there"; return 1; }
-    (cd "$1/port" && exec timeout 300 rt try replay_framing) >"$1/told" 2>&1 &
+    (cd "$1/port" && exec timeout 300 rt try "$2") >"$1/told" 2>&1 &
     run=$!
     # what comes after the run at -O3 is not needed
     while kill -0 "$run" 2>/dev/null && ! grep -q '^what the run said\|^ok: the native program at -O3 ' "$1/told.o3" 2>/dev/null; do
@@ -185,21 +189,35 @@ try_port() {
     fi
     byte=$(sed -n '/^FAIL: the native program at -O3 ended, but did not write what is expected/{n;s/^on standard output, at byte \([0-9]*\).*/\1/p}' "$1/told")
     [ -n "$byte" ] || { echo "DOES NOT BUILD"; return 1; }
-    "$oracle" where replay_framing "$seed" $((byte / 4))
+    "$oracle" where "$2" "$seed" $((byte / 4))
+}
+
+# try_port DIR PROGRAMS: by the first of the programs that tells.
+try_port() {
+    local name result status
+    for name in $2; do
+        result=$(try_program "$1" "$name")
+        status=$?
+        [ "$result" = "NOT FOUND" ] || break
+    done
+    echo "$result"
+    return "$status"
 }
 
 # worker N: every edit whose place in the list leaves N.
 worker() {
-    local dir=$tmp/$1 i found result
+    local dir=$tmp/$1 i name found result
     [ -d "$dir" ] || prepare "$dir"
     for i in $(seq "$1" "$jobs" $((${#labels[@]} - 1))); do
         chosen "${labels[i]}" || continue
-        [ "${kinds[i]}" != port ] || [ -d "$dir/port" ] || prepare_port "$dir"
+        if [ "${kinds[i]}" = port ]; then
+            for name in ${programs[i]}; do [ -f "$dir/port/$name.prepared" ] || prepare_port "$dir" "$name"; done
+        fi
         found=no
         if ! apply "$dir" "${places[i]}"; then
             result="DOES NOT APPLY"
         elif [ "${kinds[i]}" = port ]; then
-            result=$(try_port "$dir") && found=yes
+            result=$(try_port "$dir" "${programs[i]}") && found=yes
         else
             result=$(try_rust "$dir" "${programs[i]}") && found=yes
         fi

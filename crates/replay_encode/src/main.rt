@@ -1,0 +1,28 @@
+// Replays the calls of the encoders, modules 1, 2 and 4 (oracle/FORMAT.md): a script from standard input, a block of 65,536 bytes at a time, each from nothing.
+// What the calls do is proved in framing, records and commands; here they are only read, made and answered.
+use libc::STDIN_FILENO;
+use libc::STDOUT_FILENO;
+
+mod replay; // replay.rt: the calls of a block
+mod lent; // lent.rt: answers, each with the area that its call wrote to
+mod call; // call.rt: a call's body read, and the call made
+
+// Whether there was a block.
+fn block() -> bool {
+    let mut script = io::large_buffer();
+    let got = io::read_full(STDIN_FILENO, &mut script);
+    if got == 0 {
+        return false;
+    }
+    let mut out = io::large_buffer();
+    let end = replay::replay(&script[..got], &mut out);
+    let n = transcript::min(end, 65536);
+    io::write_all(STDOUT_FILENO, &out[..n])
+}
+
+fn main() {
+    let mut turns = u64::MAX;
+    while turns > 0 && block() {
+        turns -= 1;
+    }
+}
