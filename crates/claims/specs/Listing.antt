@@ -17,7 +17,8 @@ use Rattle.framing.specs.Stuffing.{Ready}
 use Rattle.framing.specs.Delivery.{delivered}
 use Rattle.framing.specs.FormedLaws.{new-formed}
 use Rattle.claims.specs.Rows.{rows}
-use Rattle.report.specs.Text.{asciiFrom, ascii, digits, decimal, hex2}
+use Rattle.field.specs.Ascii.{asciiFrom, ascii}
+use Rattle.report.specs.Text.{digits, decimal, hex2}
 use Rattle.report.specs.Line.{nameOf, nameText, bemOf, headOf, messageLine, errorLine, lineOf}
 use Rattle.report.specs.Listing.{listing}
 use Rattle.report.specs.ListingLaws.{turned, listing-fed}

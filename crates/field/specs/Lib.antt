@@ -1,4 +1,5 @@
 -- What every layer shares: a choice by a test, what is written into a lent slice, and little-endian fields.
+pub mod Ascii
 pub mod Fields
 pub mod FieldLaws
 pub mod Pick

@@ -1,8 +1,8 @@
 -- The answer leaves nothing open, and document 01's edges with some more. Assumes nothing.
 use Prim.Native.Nat.{ℕ}
 use mathlib.Core.Path.{_≡_, refl, ap, sym, _∙_}
-use mathlib.Core.List.{[], _∷_}
 use mathlib.Core.Option.{Option, none, some}
+use Rattle.field.specs.Ascii.{asciiFrom, ascii}
 use Rattle.firmware.specs.Version.{wordsFrom, beforeDot, afterDot, allDigits, decimalFrom, counts, wordValue, lastOf, firmwareOf, toldFirmware}
 use Rattle.firmware.specs.declared.Firmware.{Firmware}
 use Rattle.firmware.specs.declared.Firmware.the-variants.{Version, Unknown}
@@ -19,52 +19,42 @@ firmware-told Unknown = refl
 pub firmware-tells : (r q : Firmware) → toldFirmware r ≡ toldFirmware q → r ≡ q
 firmware-tells r q e = sym (firmware-told r) ∙ ap firmwareTold e ∙ firmware-told q
 
--- "2.05"
-pub zero-kept : firmwareOf (50 ∷ 46 ∷ 48 ∷ 53 ∷ []) ≡ some 2050
-unfolding firmwareOf lastOf wordValue counts wordsFrom beforeDot afterDot allDigits decimalFrom
+pub zero-kept : firmwareOf (ascii "2.05") ≡ some 2050
+unfolding firmwareOf lastOf wordValue counts wordsFrom beforeDot afterDot allDigits decimalFrom asciiFrom
 zero-kept = refl
 
--- "65.535"
-pub largest : firmwareOf (54 ∷ 53 ∷ 46 ∷ 53 ∷ 51 ∷ 53 ∷ []) ≡ some 65535
-unfolding firmwareOf lastOf wordValue counts wordsFrom beforeDot afterDot allDigits decimalFrom
+pub largest : firmwareOf (ascii "65.535") ≡ some 65535
+unfolding firmwareOf lastOf wordValue counts wordsFrom beforeDot afterDot allDigits decimalFrom asciiFrom
 largest = refl
 
--- "65.536"
-pub too-large : firmwareOf (54 ∷ 53 ∷ 46 ∷ 53 ∷ 51 ∷ 54 ∷ []) ≡ none
-unfolding firmwareOf lastOf wordValue counts wordsFrom beforeDot afterDot allDigits decimalFrom
+pub too-large : firmwareOf (ascii "65.536") ≡ none
+unfolding firmwareOf lastOf wordValue counts wordsFrom beforeDot afterDot allDigits decimalFrom asciiFrom
 too-large = refl
 
--- "1.2.3"
-pub two-dots : firmwareOf (49 ∷ 46 ∷ 50 ∷ 46 ∷ 51 ∷ []) ≡ none
-unfolding firmwareOf lastOf wordValue counts wordsFrom beforeDot afterDot allDigits decimalFrom
+pub two-dots : firmwareOf (ascii "1.2.3") ≡ none
+unfolding firmwareOf lastOf wordValue counts wordsFrom beforeDot afterDot allDigits decimalFrom asciiFrom
 two-dots = refl
 
--- "1.100, 2.690"
-pub last-taken : firmwareOf (49 ∷ 46 ∷ 49 ∷ 48 ∷ 48 ∷ 44 ∷ 32 ∷ 50 ∷ 46 ∷ 54 ∷ 57 ∷ 48 ∷ []) ≡ some 2690
-unfolding firmwareOf lastOf wordValue counts wordsFrom beforeDot afterDot allDigits decimalFrom
+pub last-taken : firmwareOf (ascii "1.100, 2.690") ≡ some 2690
+unfolding firmwareOf lastOf wordValue counts wordsFrom beforeDot afterDot allDigits decimalFrom asciiFrom
 last-taken = refl
 
--- "2.5."
-pub dot-after : firmwareOf (50 ∷ 46 ∷ 53 ∷ 46 ∷ []) ≡ none
-unfolding firmwareOf lastOf wordValue counts wordsFrom beforeDot afterDot allDigits decimalFrom
+pub dot-after : firmwareOf (ascii "2.5.") ≡ none
+unfolding firmwareOf lastOf wordValue counts wordsFrom beforeDot afterDot allDigits decimalFrom asciiFrom
 dot-after = refl
 
--- "3.1 2.x"
-pub last-that-counts : firmwareOf (51 ∷ 46 ∷ 49 ∷ 32 ∷ 50 ∷ 46 ∷ 120 ∷ []) ≡ some 3100
-unfolding firmwareOf lastOf wordValue counts wordsFrom beforeDot afterDot allDigits decimalFrom
+pub last-that-counts : firmwareOf (ascii "3.1 2.x") ≡ some 3100
+unfolding firmwareOf lastOf wordValue counts wordsFrom beforeDot afterDot allDigits decimalFrom asciiFrom
 last-that-counts = refl
 
--- "00000002.5"
-pub zeros-before : firmwareOf (48 ∷ 48 ∷ 48 ∷ 48 ∷ 48 ∷ 48 ∷ 48 ∷ 50 ∷ 46 ∷ 53 ∷ []) ≡ some 2500
-unfolding firmwareOf lastOf wordValue counts wordsFrom beforeDot afterDot allDigits decimalFrom
+pub zeros-before : firmwareOf (ascii "00000002.5") ≡ some 2500
+unfolding firmwareOf lastOf wordValue counts wordsFrom beforeDot afterDot allDigits decimalFrom asciiFrom
 zeros-before = refl
 
--- ".5"
-pub digits-before : firmwareOf (46 ∷ 53 ∷ []) ≡ none
-unfolding firmwareOf lastOf wordValue counts wordsFrom beforeDot afterDot allDigits decimalFrom
+pub digits-before : firmwareOf (ascii ".5") ≡ none
+unfolding firmwareOf lastOf wordValue counts wordsFrom beforeDot afterDot allDigits decimalFrom asciiFrom
 digits-before = refl
 
--- "5."
-pub digits-after : firmwareOf (53 ∷ 46 ∷ []) ≡ none
-unfolding firmwareOf lastOf wordValue counts wordsFrom beforeDot afterDot allDigits decimalFrom
+pub digits-after : firmwareOf (ascii "5.") ≡ none
+unfolding firmwareOf lastOf wordValue counts wordsFrom beforeDot afterDot allDigits decimalFrom asciiFrom
 digits-after = refl

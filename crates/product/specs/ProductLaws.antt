@@ -26,7 +26,7 @@ four-true a b c e h =
     let h₁ = both-true a b (h₂ .0) in
     (h₁ .0, h₁ .1, h₂ .1, h₃ .1)
 
--- the four texts of a well-formed information, in the order of the fields
+-- the four texts of a well-formed product info, in the order of the fields
 pub each-formed : (p : ProductInfo) → formed p ≡ true
     → (textFormed (p .model) ≡ true) × (textFormed (p .«software_version») ≡ true) × (textFormed (p .«hardware_version») ≡ true) × (textFormed (p .«serial_number») ≡ true)
 each-formed p h = four-true (textFormed (p .model)) (textFormed (p .«software_version»)) (textFormed (p .«hardware_version»)) (textFormed (p .«serial_number»)) h
@@ -49,8 +49,7 @@ pub all-bad : (p : ProductInfo) (d : List ℕ) → 138 ≤ length d → plainAll
 unfolding allAdded
 all-bad p d h e = rw (le-leb 138 (length d) h, e)
 
-pub all-set : (p : ProductInfo) (d : List ℕ) → 138 ≤ length d → plainAll d ≡ true
-    → allAdded p d ≡ held (allIn d)
+pub all-set : (p : ProductInfo) (d : List ℕ) → 138 ≤ length d → plainAll d ≡ true → allAdded p d ≡ held (allIn d)
 unfolding allAdded
 all-set p d h e = rw (le-leb 138 (length d) h, e)
 

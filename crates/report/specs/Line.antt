@@ -5,7 +5,8 @@ use mathlib.Core.List.{List, [], _∷_, _++_}
 use lib.Dec.{eqb}
 use Rattle.field.specs.Pick.{pick}
 use Rattle.framing.specs.Decode.{Outcome, quiet, message, error, refused}
-use Rattle.report.specs.Text.{ascii, decimal, hex2}
+use Rattle.field.specs.Ascii.{ascii}
+use Rattle.report.specs.Text.{decimal, hex2}
 use Rattle.report.specs.declared.names.ReplyName.{ReplyName}
 
 -- the reply bytes that have a name, and the name's number ("a fixed table of ten reply bytes and names decides")

@@ -11,7 +11,8 @@ use lib.ListN.{length, getD, drop, length-append}
 use lib.Seq.{drop-cons}
 use Rattle.field.specs.Pick.{pick}
 use Rattle.framing.specs.Decode.{Outcome, quiet, message, error, refused}
-use Rattle.report.specs.Text.{asciiFrom, ascii, hex2}
+use Rattle.field.specs.Ascii.{asciiFrom, ascii}
+use Rattle.report.specs.Text.{hex2}
 use Rattle.report.specs.TextLaws.{decimal-length}
 use Rattle.report.specs.Line.{lookup, nameOf, nameText, isBem, bemOf, headOf, messageLine, errorLine, lineOf}
 use Rattle.report.specs.declared.names.ReplyName.{ReplyName}

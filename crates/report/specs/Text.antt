@@ -1,19 +1,8 @@
--- Text as bytes: literals, decimal numbers, hexadecimal bytes. Assumes nothing.
+-- Text as bytes: decimal numbers, hexadecimal bytes. Assumes nothing.
 use Prim.Native.Nat.{ℕ, zero, suc, _+_, _-_, _*_, _/_, _%_}
-use Prim.Native.Char.{code}
-use Prim.Native.String.{String, len, charAt}
 use mathlib.Core.List.{List, [], _∷_, _++_}
 use lib.Dec.{ltb}
 use Rattle.field.specs.Pick.{pick}
-
--- k characters of a text, from the character i on
-unfoldable pub asciiFrom : String → ℕ → ℕ → List ℕ
-asciiFrom s i zero = []
-asciiFrom s i (suc k) = code (charAt s i) ∷ asciiFrom s (i + 1) k
-
--- a text's characters as bytes
-abbrev pub ascii : String → List ℕ
-ascii s = asciiFrom s 0 (len s)
 
 -- the decimal digits of n, at most k of them, with no zeros in front
 unfoldable pub digits : ℕ → ℕ → List ℕ

@@ -52,7 +52,7 @@ keep true b [] = []
 keep true b (x ∷ xs) = b ∷ x ∷ xs
 keep false b l = b ∷ l
 
--- a list without the white bytes that it ends with
+-- a list without the white bytes that it ends with (trim-white and trim-kept of TrimLaws say it from the end)
 unfoldable pub trimRight : List ℕ → List ℕ
 trimRight [] = []
 trimRight (b ∷ bs) = keep (isWhite b) b (trimRight bs)

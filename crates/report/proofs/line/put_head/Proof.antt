@@ -1,7 +1,8 @@
 -- `report::line::put_head` meets its contract. Assumes nothing.
 use native.Mathlib.Omega.{arith}
 use borrow.Author.Needs.{needs}
-use Rattle.report.specs.Text.{asciiFrom, ascii, decimal}
+use Rattle.field.specs.Ascii.{asciiFrom, ascii}
+use Rattle.report.specs.Text.{decimal}
 use Rattle.report.specs.TextLaws.{decimal-length}
 use Rattle.report.specs.Line.{headOf}
 use Rattle.field.specs.Puts.{puts-both, puts-length}

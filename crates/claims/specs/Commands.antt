@@ -1,0 +1,25 @@
+-- What the host sends arrives: a command that was written, unframed by the base decoder, is that command and nothing else. Assumes nothing.
+use Prim.Native.Nat.{ℕ, _+_, _≤_}
+use native.Mathlib.Omega.{arith}
+use mathlib.Core.Path.{_≡_, refl, ap, sym, _∙_}
+use mathlib.Core.List.{List, [], _∷_, _++_, append-assoc}
+use mathlib.Core.Logic.{inl}
+use lib.ListN.{length, drop}
+use lib.Seq.{drop-at}
+use Rattle.framing.specs.Frame.{frame}
+use Rattle.framing.specs.Decode.{State, message, payloadOf, base}
+use Rattle.framing.specs.Feed.{fed}
+use Rattle.framing.specs.Stuffing.{Ready}
+use Rattle.framing.specs.Encode.{wrote}
+use Rattle.framing.specs.Agreement.{ReadBack, read-back}
+use Rattle.commands.specs.Command.{sent, readF2}
+use Rattle.commands.specs.PairBack.{PairBack, pair-back}
+
+-- Any command: just the bytes written are used, they give one message with command A1, and its payload is the command's.
+pub command-arrives : (s : State) (payload out : List ℕ) (n d : ℕ) (o : List ℕ) → Ready base s → sent payload out ≡ wrote n d o
+    → ReadBack s 0xA1 payload o n
+command-arrives s payload out n d o = read-back s 0xA1 payload out n d o
+
+-- The pair of Format 2: two messages, 40 and then 4F, the second from the byte after the first's last.
+pub pair-arrives : (s : State) (out : List ℕ) (n d : ℕ) (o : List ℕ) → Ready base s → readF2 out ≡ wrote n d o → PairBack s (0x40 ∷ []) (0x4F ∷ []) o n
+pair-arrives s out n d o = pair-back s (0x40 ∷ []) (0x4F ∷ []) out n d o (omega arith) (omega arith)
