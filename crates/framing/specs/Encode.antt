@@ -20,6 +20,15 @@ abbrev pub toldEncoded : Encoded → List ℕ → Answer
 toldEncoded (Written count doubled) out = wrote count doubled out
 toldEncoded (Refused number) out = refused number out
 
+-- an answer's parts: 0 or the refusal's number, and how many bytes were written
+abbrev pub numberOf : Encoded → ℕ
+numberOf (Written count doubled) = 0
+numberOf (Refused number) = number
+
+abbrev pub countOf : Encoded → ℕ
+countOf (Written count doubled) = count
+countOf (Refused number) = 0
+
 -- 6: the payload is over 255; 7: the output is under the frame's length ("Encoders 6, 7"; both "change no state or lent byte");
 -- else the frame, and the bytes after it as they were
 unfoldable pub encoded : ℕ → List ℕ → List ℕ → Answer

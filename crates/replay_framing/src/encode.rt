@@ -23,32 +23,13 @@ fn encode_into(call: &[u8], area: &mut [u8]) -> Encoded {
     framing::encode_ngt_message(byte_at(call, 0), rest(call, 3), area)
 }
 
-// 0, or the number of the refusal.
-fn refusal_of(r: Encoded) -> u8 {
-    match r {
-        Encoded::Written {
-            count: _,
-            doubled: _,
-        } => 0,
-        Encoded::Refused(number) => number,
-    }
-}
-
-// How many bytes were written.
-fn written_of(r: Encoded) -> usize {
-    match r {
-        Encoded::Written { count, doubled: _ } => count,
-        Encoded::Refused(_) => 0,
-    }
-}
-
 // ENCODE.
 pub(crate) fn encode(call: &[u8], out: &mut [u8], n: usize) -> usize {
     let a = open_area(out, n, ENCODE, room_of(call));
     let start = a.start;
     let end = a.end;
     let r = encode_into(call, &mut out[start..end]);
-    close_area(out, a, refusal_of(r), written_of(r))
+    close_area(out, a, r.number(), r.count())
 }
 
 // LENT: the whole area, refused or not.
@@ -61,5 +42,5 @@ pub(crate) fn lent_area(call: &[u8], out: &mut [u8], n: usize) -> usize {
     let start = a.start;
     let end = a.end;
     let r = encode_into(inner, &mut out[start..end]);
-    close_lent(out, a, refusal_of(r))
+    close_lent(out, a, r.number())
 }

@@ -44,8 +44,8 @@ part-encode-into-end c = omega (arith, placed (c .before .before) .1)
 encode-into-requires : tie.Need-encode-into-requires
 encode-into-requires c κs = search needs
 
-refusal-of-requires : tie.Need-refusal-of-requires
-refusal-of-requires c κs = search needs
+number-requires : tie.Need-number-requires
+number-requires c κs = search needs
 
 close-lent-requires : tie.Need-close-lent-requires
 close-lent-requires c κs = search needs
@@ -71,7 +71,7 @@ lent-area-spec =
     part-encode-into-start
     part-encode-into-end
     encode-into-requires
-    refusal-of-requires
+    number-requires
     close-lent-requires
     same-length-2
     returns-2)
