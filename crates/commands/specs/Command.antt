@@ -9,7 +9,8 @@ use Rattle.field.specs.Fields.{bytesOf}
 use Rattle.framing.specs.Frame.{dles, body, frame}
 use Rattle.framing.specs.Encode.{Answer, wrote, refused, encoded, within}
 
--- "All use command A1."
+-- "All use command A1." A command without arguments is its byte alone, which its encoder's contract names: "Reads: 49 (Format 1)",
+-- "Product info 41", "mode 11"; commit 01 and activate 4B, whose values "come from the full file"
 abbrev pub sent : List ℕ → List ℕ → Answer
 sent payload out = encoded 0xA1 payload out
 
