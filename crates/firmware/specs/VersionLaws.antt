@@ -68,8 +68,3 @@ digits-before = refl
 pub digits-after : firmwareOf (53 ∷ 46 ∷ []) ≡ none
 unfolding firmwareOf lastOf wordValue counts wordsFrom beforeDot afterDot allDigits decimalFrom
 digits-after = refl
-
--- "1.2345"
-pub four-digits : firmwareOf (49 ∷ 46 ∷ 50 ∷ 51 ∷ 52 ∷ 53 ∷ []) ≡ none
-unfolding firmwareOf lastOf wordValue counts wordsFrom beforeDot afterDot allDigits decimalFrom
-four-digits = refl
