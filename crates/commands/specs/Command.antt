@@ -9,7 +9,8 @@ use Rattle.field.specs.Fields.{bytesOf}
 use Rattle.framing.specs.Frame.{dles, body, frame}
 use Rattle.framing.specs.Encode.{Answer, wrote, refused, encoded, within}
 
--- "All use command A1."
+-- "All use command A1." A command without arguments is its byte alone, which its encoder's contract names: "Reads: 49 (Format 1)",
+-- "Product info 41", "mode 11"; commit 01 and activate 4B, whose values "come from the full file"
 abbrev pub sent : List ℕ → List ℕ → Answer
 sent payload out = encoded 0xA1 payload out
 
@@ -25,7 +26,7 @@ enable pgn = 0x47 ∷ bytesOf 4 pgn ++ (0x01 ∷ 0xFE ∷ 0xFF ∷ 0xFF ∷ 0xFF
 unfoldable pub setPcodes : List ℕ → List ℕ → Answer
 setPcodes ports out = within 253 0xA1 (0x13 ∷ length ports ∷ []) ports out
 
--- two commands end to end ("the second read command starts at the byte after the first's last"); 7 where both do not fit
+-- two commands of at most 255 bytes end to end ("the second read command starts at the byte after the first's last"); 7 where both do not fit
 unfoldable pub sentPair : List ℕ → List ℕ → List ℕ → Answer
 sentPair p q out =
     pick (ltb (length out) (length (frame 0xA1 p ++ frame 0xA1 q))) (refused 7 out)

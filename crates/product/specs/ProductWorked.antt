@@ -6,7 +6,7 @@ use lib.ListN.{replicate}
 use Rattle.field.specs.Fields.{field}
 use Rattle.texts.specs.Texts.{textOf, isWhite, cut, allPlain, leading, trimRight, textRead, textAt}
 use Rattle.product.specs.declared.ProductInfo.{ProductInfo}
-use Rattle.product.specs.Product.{noInfo, refused, allAdded, numbersAdded, withText, textAdded, bySequence, added}
+use Rattle.product.specs.Product.{noInfo, refused, allAdded, withNumbers, numbersAdded, withText, textAdded, bySequence, added}
 
 -- sequence 6 with 138 data bytes: a byte 80 in the fourth text alone refuses all
 pub six-refused : added noInfo 6 (replicate 104 0x41 ++ (0x80 ∷ replicate 33 0x41)) ≡ refused noInfo 15
@@ -26,6 +26,24 @@ pub six-set : added noInfo 6 (replicate 4 0x80 ++ (0x34 ∷ 0x08 ∷ 0x01 ∷ 0x
     }
 unfolding added bySequence allAdded field textAt textRead cut isWhite leading trimRight allPlain
 six-set = refl
+
+-- sequence 1 sets version and code, and no text
+pub one-set : added noInfo 1 (0x34 ∷ 0x08 ∷ 0x01 ∷ 0x02 ∷ 0x80 ∷ 0x80 ∷ []) .info ≡ withNumbers noInfo 2100 513
+unfolding added bySequence numbersAdded field
+one-set = refl
+
+-- sequences 2, 3 and 4 set model, software and hardware
+pub two-set : added noInfo 2 (0x4E ∷ replicate 31 0x00) .info .model ≡ textOf (0x4E ∷ [])
+unfolding added bySequence textAdded withText textAt textRead cut isWhite leading trimRight allPlain
+two-set = refl
+
+pub three-set : added noInfo 3 (0x4E ∷ replicate 31 0x00) .info .«software_version» ≡ textOf (0x4E ∷ [])
+unfolding added bySequence textAdded withText textAt textRead cut isWhite leading trimRight allPlain
+three-set = refl
+
+pub four-set : added noInfo 4 (0x4E ∷ replicate 31 0x00) .info .«hardware_version» ≡ textOf (0x4E ∷ [])
+unfolding added bySequence textAdded withText textAt textRead cut isWhite leading trimRight allPlain
+four-set = refl
 
 -- sequence 5 with 32: a byte 80 before the text's end, or after it
 pub five-refused : added noInfo 5 (0x4E ∷ replicate 31 0x80) ≡ refused noInfo 15

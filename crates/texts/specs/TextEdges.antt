@@ -1,6 +1,7 @@
 -- Edges of a text's reading, worked out from the definitions. Assumes nothing.
 use Prim.Native.Nat.{ℕ}
 use mathlib.Core.Path.{_≡_, refl}
+use mathlib.Core.Bool.{false, _||_}
 use mathlib.Core.List.{List, [], _∷_, _++_}
 use lib.ListN.{replicate}
 use Rattle.texts.specs.declared.TextRead.{TextRead}
@@ -31,10 +32,14 @@ pub each-white : textRead (0x09 ∷ 0x0A ∷ 0x0B ∷ 0x0C ∷ 0x0D ∷ 0x20 ∷
 unfolding textRead cut isWhite leading trimRight allPlain
 each-white = refl
 
--- 08, 0E, 1F, 21 are not, and 7F stays
-pub no-white : textRead (0x08 ∷ 0x0E ∷ 0x1F ∷ 0x21 ∷ 0x7F ∷ 0x21 ∷ 0x1F ∷ 0x0E ∷ 0x08 ∷ []) ≡ reads (0x08 ∷ 0x0E ∷ 0x1F ∷ 0x21 ∷ 0x7F ∷ 0x21 ∷ 0x1F ∷ 0x0E ∷ 0x08 ∷ [])
-unfolding textRead cut isWhite leading trimRight allPlain
+-- 08, 0E, 1F and 21 are not, and 7F stays
+pub no-white : (isWhite 0x08 || isWhite 0x0E || isWhite 0x1F || isWhite 0x21) ≡ false
+unfolding isWhite
 no-white = refl
+
+pub last-plain : textRead (0x0E ∷ 0x7F ∷ []) ≡ reads (0x0E ∷ 0x7F ∷ [])
+unfolding textRead cut isWhite leading trimRight allPlain
+last-plain = refl
 
 -- a byte 80 or FE after the end is not looked at, whether 00 or FF ends the text
 pub after-the-end : textRead (0x4E ∷ 0xFF ∷ 0x80 ∷ []) ≡ reads (0x4E ∷ [])

@@ -69,6 +69,10 @@ read-formed d h = go (allPlain (cut d))
 pub lent-long : (d : List ℕ) (at : ℕ) → length (lent d at) ≤ textWidth
 lent-long d at = simp length-take (omega arith)
 
+-- so it fits a text
+pub lent-fits : (d : List ℕ) (at : ℕ) → length (lent d at) ≤ textMax
+lent-fits d at = omega (arith, lent-long d at)
+
 -- the part that is lent, by what the data hold: nothing, all that is left, or the first 32 of it
 pub lent-none : (d : List ℕ) (at : ℕ) → length d ≤ at → [] ≡ lent d at
 lent-none d at h = sym (ap (take textWidth) (drop-of-length-le d {i = at} h))
@@ -85,4 +89,4 @@ lent-first d at = ap (take textWidth) (rest-all d at)
 -- a text that is read at a place is well formed
 pub textAt-formed : (d : List ℕ) (at : ℕ) → textFormed (textAt d at .text) ≡ true
 unfolding textAt
-textAt-formed d at = read-formed (lent d at) (lent-long d at)
+textAt-formed d at = read-formed (lent d at) (lent-fits d at)

@@ -54,6 +54,7 @@ fn text_of(s: &[u8]) -> Text
     Text { bytes, count: i }
 }
 
+// Whether b is white: one of the bytes that a text loses from its ends, 09 to 0D and 20.
 fn is_white(b: u8) -> bool
     ensures { λ r. ⌜ r ≡ isWhite b ⌝ }
 {

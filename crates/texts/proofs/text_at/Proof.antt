@@ -2,7 +2,7 @@
 use mathlib.Core.Path.{ap, _∙_}
 use borrow.Author.Needs.{needs}
 use Rattle.texts.specs.Texts.{textRead, textAt}
-use Rattle.texts.specs.TextLaws.{lent-long}
+use Rattle.texts.specs.TextLaws.{lent-fits}
 use Rattle.texts.proofs.text_at.Statement.{statement}
 use Rattle.texts.proofs.text_at.Tie as tie
 
@@ -10,7 +10,7 @@ lent-part-requires : tie.Need-lent-part-requires
 lent-part-requires c κs = search needs
 
 text-read-requires : tie.Need-text-read-requires
-text-read-requires c κs = let a = c .before .before .args in rw (c .lent-part .ensures) (lent-long (a .«data» .now) (a .at))
+text-read-requires c κs = let a = c .before .before .args in rw (c .lent-part .ensures) (lent-fits (a .«data» .now) (a .at))
 
 returns : tie.Need-returns
 unfolding textAt

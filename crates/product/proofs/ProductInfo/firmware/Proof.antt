@@ -7,7 +7,7 @@ use borrow.Author.Tests.{not-true, not-false, leb-true}
 use borrow.Author.Needs.{needs}
 use lib.ListN.{length}
 use Rattle.field.specs.Pick.{pick}
-use Rattle.texts.specs.Texts.{bytesIn}
+use Rattle.texts.specs.Texts.{textMax, bytesIn}
 use Rattle.firmware.specs.Version.{firmwareOf, toldFirmware}
 use Rattle.firmware.specs.declared.Firmware.{Firmware}
 use Rattle.product.specs.Product.{formed}
@@ -21,13 +21,13 @@ well : (c : tie.Else1) → formed (c .before .before .args .self) ≡ true
 well c = sym (c .before .is-formed .ensures) ∙ not-false (c .before .is-formed .result) (c .if1 .left)
 
 -- the software text has as many bytes as its count says
-array : (s : tie.Start) → length (s .args .self .«software_version» .bytes) ≡ 32
+array : (s : tie.Start) → length (s .args .self .«software_version» .bytes) ≡ textMax
 array s = let k = s .good .0 .1 .1 .1 .1 .1 .0 in search needs
 
 enough : (c : tie.Else1) → let t = c .before .before .args .self .«software_version» in t .count ≤ length (t .bytes)
 enough c =
     let p = c .before .before .args .self in
-    omega (arith, leb-true (p .«software_version» .count) 32 (each-formed p (well c) .1), array (c .before .before))
+    omega (arith, leb-true (p .«software_version» .count) textMax (each-formed p (well c) .1), array (c .before .before))
 
 -- the answer by what the text names
 named : (c : tie.After-firmware-in)
