@@ -58,3 +58,7 @@ digits-before = refl
 pub digits-after : firmwareOf (ascii "5.") ≡ none
 unfolding firmwareOf lastOf wordValue counts wordsFrom beforeDot afterDot allDigits decimalFrom asciiFrom
 digits-after = refl
+
+pub four-digits : firmwareOf (ascii "1.2345") ≡ none
+unfolding firmwareOf lastOf wordValue counts wordsFrom beforeDot afterDot allDigits decimalFrom asciiFrom
+four-digits = refl

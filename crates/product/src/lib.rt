@@ -11,7 +11,7 @@ use firmware::Firmware;
 use texts::Text;
 
 // Which parts are held.
-pub struct Parts {
+pub struct HeldParts {
     pub numbers: bool,
     pub model: bool,
     pub software: bool,
@@ -26,7 +26,7 @@ pub struct ProductInfo {
     pub software_version: Text,
     pub hardware_version: Text,
     pub serial_number: Text,
-    pub parts: Parts,
+    pub parts: HeldParts,
 }
 
 // What a reply gave: the information after it, 0 or the number of the refusal, and whether all five parts are held.
@@ -49,7 +49,7 @@ impl ProductInfo {
         ensures { λ r. ⌜ r ≡ noInfo ⌝ }
     {
         let none = Text::empty();
-        let parts = Parts {
+        let parts = HeldParts {
             numbers: false,
             model: false,
             software: false,
@@ -165,7 +165,7 @@ fn add_all(info: ProductInfo, data: &[u8]) -> Added
 fn all_of(data: &[u8], model: Text, software: Text, hardware: Text, serial: Text) -> ProductInfo
     ensures { λ r. ⌜ r ≡ allOf (now («data» .entry)) model software hardware serial ⌝ }
 {
-    let parts = Parts {
+    let parts = HeldParts {
         numbers: true,
         model: true,
         software: true,

@@ -1,6 +1,6 @@
 // Product infos of any stored state.
 use field::byte_at;
-use product::Parts;
+use product::HeldParts;
 use product::ProductInfo;
 use texts::TEXT_MAX;
 use texts::Text;
@@ -14,8 +14,8 @@ fn has(parts: u8, value: u8) -> bool {
 }
 
 // Parts as bits 1 to 5.
-fn parts_of(parts: u8) -> Parts {
-    Parts {
+fn parts_of(parts: u8) -> HeldParts {
+    HeldParts {
         numbers: has(parts, 2),
         model: has(parts, 4),
         software: has(parts, 8),

@@ -1,6 +1,6 @@
 // Modes, parts, texts and firmware in an answer. Each `put_` function returns the place after what it put.
 use product::FirmwareRead;
-use product::Parts;
+use product::HeldParts;
 use product::ProductInfo;
 use replies::ModeFound;
 use replies::OperatingMode;
@@ -44,7 +44,7 @@ fn bit(held: bool, value: u8) -> u8 {
 }
 
 // Bits 1 to 5.
-fn bits_of(parts: Parts) -> u8 {
+fn bits_of(parts: HeldParts) -> u8 {
     bit(parts.numbers, 2)
         | bit(parts.model, 4)
         | bit(parts.software, 8)
