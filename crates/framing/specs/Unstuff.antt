@@ -52,9 +52,9 @@ unfoldable pub collected : {E : Type 0} → Machine E → ℕ → List ℕ → �
 collected m n buf b =
     pick (ltb n (m .capacity)) (to InFrame (n + 1) (set buf n b) (m .nothing)) (to Idle 0 buf (m .tooLong))
 
--- "Idle: DLE opens an outside escape; all else is dropped. In frame: DLE opens an inside escape; all else is collected.
--- Either escape: STX empties the count and enters the frame, silently. Inside escape: DLE collects one DLE and returns to the
--- frame", ETX closes, "any other byte gives error 4".
+-- "Idle: DLE opens an outside escape; all else is dropped." "In frame: DLE opens an inside escape; all else is collected."
+-- "Either escape: STX empties the count and enters the frame, silently. ETX closes and goes idle."
+-- "Inside escape: DLE collects one DLE and returns to the frame. Any other byte gives error 4." Outside, see `outside` of the machine.
 unfoldable pub byPhase : {E : Type 0} → Machine E → Phase → ℕ → List ℕ → ℕ → Stepped E
 byPhase m Idle n buf b = pick (eqb b 0x10) (to EscapeOutside n buf (m .nothing)) (to Idle n buf (m .nothing))
 byPhase m InFrame n buf b = pick (eqb b 0x10) (to EscapeInside n buf (m .nothing)) (collected m n buf b)
