@@ -126,8 +126,8 @@ prepare_port() {
         git init --quiet "$1/port"
     fi
     [ -d "$crate" ] || fail "there is no crate $2"
-    replace "$crate/src/main.rt" '    io::write_all(STDOUT_FILENO, &out[..n])' '    let mut word = [0u8; 4];
-    transcript::put_u32(&mut word, 0, transcript::sum(&out[..n]));
+    replace "$crate/src/main.rt" '    io::write_all(STDOUT_FILENO, first(&out, end))' '    let mut word = [0u8; 4];
+    transcript::put_u32(&mut word, 0, transcript::sum(first(&out, end)));
     io::write_all(STDOUT_FILENO, &word)' || fail "$2's main does not end by writing its transcript"
     "$oracle" script "$2" quick "$seed" >"$crate/stdin"
     "$oracle" words <"$crate/stdin" >"$crate/stdout"

@@ -2,6 +2,7 @@
 // What the calls do is proved in framing, records and commands; here they are only read, made and answered.
 use libc::STDIN_FILENO;
 use libc::STDOUT_FILENO;
+use transcript::first;
 
 mod replay; // replay.rt: the calls of a block
 mod lent; // lent.rt: answers, each with the area that its call wrote to
@@ -15,9 +16,8 @@ fn block() -> bool {
         return false;
     }
     let mut out = io::large_buffer();
-    let end = replay::replay(&script[..got], &mut out);
-    let n = transcript::min(end, 65536);
-    io::write_all(STDOUT_FILENO, &out[..n])
+    let end = replay::replay(first(&script, got), &mut out);
+    io::write_all(STDOUT_FILENO, first(&out, end))
 }
 
 fn main() {

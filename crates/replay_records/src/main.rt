@@ -2,6 +2,7 @@
 // each from nothing. What the calls do is proved in records, replies and product; here they are only read, made and answered.
 use libc::STDIN_FILENO;
 use libc::STDOUT_FILENO;
+use transcript::first;
 
 mod replay; // replay.rt: the calls of a block
 mod record; // record.rt: records
@@ -18,9 +19,8 @@ fn block() -> bool {
         return false;
     }
     let mut out = io::large_buffer();
-    let end = replay::replay(&script[..got], &mut out);
-    let n = transcript::min(end, 65536);
-    io::write_all(STDOUT_FILENO, &out[..n])
+    let end = replay::replay(first(&script, got), &mut out);
+    io::write_all(STDOUT_FILENO, first(&out, end))
 }
 
 fn main() {

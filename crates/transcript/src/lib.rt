@@ -2,7 +2,7 @@
 // A transcript is a lent slice and the place up to which it is written. No function here requires anything: what does not fit is dropped.
 ghost use Prim.Native.Nat.{_-_, _%_, _<_, min};
 ghost use mathlib.Core.Path.{_≡_};
-ghost use lib.ListN.{drop, replicate};
+ghost use lib.ListN.{drop, replicate, take};
 ghost use Rattle.field.specs.Fields.{bytesOf};
 ghost use Rattle.transcript.specs.Log.{log, put, puts, headOf, sized};
 ghost use Rattle.transcript.specs.Script.{mixed, sumOf, callSize};
@@ -148,6 +148,16 @@ pub fn min(a: usize, b: usize) -> usize
     ensures { λ r. ⌜ r ≡ min a b ⌝ }
 {
     if a < b { a } else { b }
+}
+
+// The first bytes, so many or as many as there are.
+pub fn first(s: &[u8], n: usize) -> &[u8]
+    ensures { λ r. ⌜ now r ≡ take n (now (s .entry)) ⌝ }
+{
+    if s.len() <= n {
+        return s;
+    }
+    &s[..n]
 }
 
 // All bytes from a place on.
