@@ -1,14 +1,10 @@
 -- What the host sends arrives: a command that was written, unframed by the base decoder, is that command and nothing else. Assumes nothing.
-use Prim.Native.Nat.{ℕ, _+_, _≤_}
+use Prim.Native.Nat.{ℕ}
 use native.Mathlib.Omega.{arith}
-use mathlib.Core.Path.{_≡_, refl, ap, sym, _∙_}
-use mathlib.Core.List.{List, [], _∷_, _++_, append-assoc}
-use mathlib.Core.Logic.{inl}
-use lib.ListN.{length, drop}
-use lib.Seq.{drop-at}
-use Rattle.framing.specs.Frame.{frame}
-use Rattle.framing.specs.Decode.{State, message, payloadOf, base}
-use Rattle.framing.specs.Feed.{fed}
+use mathlib.Core.Path.{_≡_}
+use mathlib.Core.List.{List, [], _∷_}
+use lib.ListN.{length}
+use Rattle.framing.specs.Decode.{State, base}
 use Rattle.framing.specs.Stuffing.{Ready}
 use Rattle.framing.specs.Encode.{wrote}
 use Rattle.framing.specs.EncodeLaws.{within-wrote}

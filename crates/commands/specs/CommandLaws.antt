@@ -1,16 +1,16 @@
 -- Laws of two commands written end to end. Assumes nothing.
 use Prim.Native.Nat.{ℕ, _+_, _-_, _≤_, _<_}
 use native.Mathlib.Omega.{arith}
-use mathlib.Core.Path.{_≡_, refl, ap, ap₂, sym, _∙_}
+use mathlib.Core.Path.{_≡_, refl, _∙_}
 use mathlib.Core.List.{List, [], _∷_, _++_}
 use borrow.Author.Tests.{lt-ltb, le-ltb}
 use lib.ListN.{length, take, drop, length-drop}
 use lib.Seq.{take-all}
 use Rattle.field.specs.Written.{written}
 use Rattle.framing.specs.declared.Encoded.{Encoded}
-use Rattle.framing.specs.declared.Encoded.the-variants.{Written, Refused}
+use Rattle.framing.specs.declared.Encoded.the-variants.{Written}
 use Rattle.framing.specs.Frame.{stuffed, stuff, dles, sum, covered, checksum, body, framed, frame}
-use Rattle.framing.specs.Encode.{Answer, wrote, refused, toldEncoded, encoded}
+use Rattle.framing.specs.Encode.{wrote, refused, toldEncoded}
 use Rattle.framing.specs.EncodeLaws.{encoded-wrote, answer-tells}
 use Rattle.commands.specs.Command.{sent, sentPair}
 

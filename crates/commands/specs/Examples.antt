@@ -1,6 +1,6 @@
 -- Commands on the wire, worked out from the definitions. Assumes nothing.
 use mathlib.Core.Path.{_≡_, refl}
-use mathlib.Core.List.{List, [], _∷_, _++_}
+use mathlib.Core.List.{[], _∷_}
 use lib.ListN.{replicate}
 use Rattle.field.specs.Fields.{bytesOf}
 use Rattle.framing.specs.Frame.{stuffed, stuff, dles, sum, covered, checksum, body, framed, frame}

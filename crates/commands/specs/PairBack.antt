@@ -1,9 +1,9 @@
 -- Two commands written end to end are read back as two messages. Assumes nothing.
-use Prim.Native.Nat.{ℕ, _+_, _-_, _≤_}
+use Prim.Native.Nat.{ℕ, _+_, _≤_}
 use native.Mathlib.Omega.{arith}
 use mathlib.Core.Path.{_≡_, refl, ap, sym, _∙_}
 use mathlib.Core.Bool.{Bool, true, false}
-use mathlib.Core.List.{List, [], _∷_, _++_, append-assoc}
+use mathlib.Core.List.{List, _++_, append-assoc}
 use mathlib.Core.Logic.{inl}
 use lib.Dec.{ltb}
 use lib.ListN.{length, drop, length-append}

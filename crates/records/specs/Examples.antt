@@ -7,7 +7,6 @@ use Rattle.field.specs.Fields.{field, bytesOf}
 use Rattle.framing.specs.Frame.{stuffed, stuff, dles, sum, covered, checksum, body, framed, frame}
 use Rattle.framing.specs.Encode.{wrote, refused, encoded, within}
 use Rattle.records.specs.declared.RawFrame.{RawFrame}
-use Rattle.records.specs.declared.FrameRead.{FrameRead}
 use Rattle.records.specs.Record.{sendEncoded, receivedEncoded, refusal, frameRead, frameData}
 
 -- a position (PGN 129025) of priority 2, from 1 to all, at 5423734 ms

@@ -1,15 +1,15 @@
 -- Laws of reading a record, case by case. Assumes nothing.
 use Prim.Native.Nat.{ℕ, _+_, _-_, _≤_, _<_}
 use native.Mathlib.Omega.{arith}
-use mathlib.Core.Path.{_≡_, refl, ap, sym, _∙_}
+use mathlib.Core.Path.{_≡_, refl}
 use mathlib.Core.Bool.{Bool, true, false}
-use mathlib.Core.List.{List, [], _∷_, _++_}
+use mathlib.Core.List.{List}
 use borrow.Author.Tests.{lt-ltb, le-ltb, eq-eqb, ne-eqb, ltb-false}
 use lib.Dec.{ltb, eqb}
-use lib.ListN.{length, getD, take, drop}
+use lib.ListN.{length, getD}
 use Rattle.field.specs.Pick.{pick}
 use Rattle.records.specs.declared.FrameRead.{FrameRead}
-use Rattle.records.specs.Record.{held, refusal, frameRead, frameData}
+use Rattle.records.specs.Record.{held, refusal, frameRead}
 
 -- the answer, by its three tests
 abbrev byTests : List ℕ → Bool → Bool → Bool → FrameRead
