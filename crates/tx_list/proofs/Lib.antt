@@ -1,2 +1,4 @@
 pub mod Lists
 pub mod Demand3
+pub mod Formed
+pub mod Kept
