@@ -2,3 +2,4 @@ pub mod Lists
 pub mod Demand3
 pub mod Formed
 pub mod Kept
+pub mod Example
