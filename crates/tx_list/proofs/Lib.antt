@@ -5,3 +5,4 @@ pub mod Kept
 pub mod Example
 pub mod LiveLists
 pub mod Live
+pub mod LiveKept

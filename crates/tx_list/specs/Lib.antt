@@ -6,3 +6,4 @@ pub mod Observer
 pub mod Demand
 pub mod Stored
 pub mod Live
+pub mod LiveKept
