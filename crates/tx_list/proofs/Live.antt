@@ -17,7 +17,7 @@ use Rattle.tx_list.specs.Observer.{Stage, reads, asks, commits, activate
 use Rattle.tx_list.specs.Demand.{toPresent, toRefused, owedOf, enables, gained, Opening, open-with, wantedOf, oldOf}
 use Rattle.tx_list.specs.Live.{others, asksList, closes, Gateway, inTwo, TellsFirst, Unwhole, Tells, setting, Mixed, end, next, idle, lost, Idle, Dull, NotDue, Said, isPage, said, saids, texts, listed, Each, Fair, owes, fresh, ending, startUp, Helpful, Started, Live}
 use Rattle.tx_list.proofs.Lists.{length-snoc, owed-length, brought-snoc}
-use Rattle.tx_list.proofs.LiveLists.{false-true, GoodReply, known-all, refused-none, all-served}
+use Rattle.tx_list.proofs.LiveLists.{false-true, GoodReply, known-all, refused-none, all-served, none-served}
 use Rattle.tx_list.proofs.Demand3.{Lawful, Inv, formed, same-full, step-lands, run-lands, start-lands, opening-start, Start, mk, recOf, knownOf, phaseOf, toKnown}
 
 -- a fair message is refused at most with 14
@@ -31,9 +31,9 @@ fair-taken x h =
     )
     refl
 
-taken-32 : (t : ℕ) → t ≤ 18446744073709541615 → vetTick t 32 ≡ taken
+tick-taken : (t room : ℕ) → t ≤ 18446744073709541615 → 32 ≤ room → vetTick t room ≡ taken
 unfolding vetTick unless
-taken-32 t h = rw (le-ltb 18446744073709541615 t h) refl
+tick-taken t room h z = rw (le-ltb 18446744073709541615 t h, le-ltb room 32 z) refl
 
 abbrev pub any : List ℕ → Bool
 any [] = false
@@ -206,17 +206,18 @@ module _ (k : Kind) (w : List ℕ) (old : Record (k .Entry)) where
         ∙ ap (λ (z : Verdict). sentBy (gate k z y)) (fair-taken x h)
 
     tick-sent :
-        (v : Observer (k .Parts)) (r : Ran (k .Parts) (k .Entry)) (t : ℕ)
+        (v : Observer (k .Parts)) (r : Ran (k .Parts) (k .Entry)) (t room : ℕ)
         → Inv k w old v r
         → t ≤ 18446744073709541615
-        → sentBy (step k (r .session) (tick t 32)) ≡ sentBy (onTick k (phaseOf k w old (v .stage)) (ofSeen v) t)
+        → 32 ≤ room
+        → sentBy (step k (r .session) (tick t room)) ≡ sentBy (onTick k (phaseOf k w old (v .stage)) (ofSeen v) t)
     unfolding step gate unless
-    tick-sent v r t i h =
+    tick-sent v r t room i h z =
         let y : Result (k .Parts) (k .Entry) = onTick k (phaseOf k w old (v .stage)) (ofSeen v) t in
-        ap (λ (s : Session (k .Parts) (k .Entry)). sentBy (step k s (tick t 32))) (i .same)
-        ∙ ap (λ (z : Bool). sentBy (gate k (unless (not z) 16 (vetTick t 32)) y))
+        ap (λ (s : Session (k .Parts) (k .Entry)). sentBy (step k s (tick t room))) (i .same)
+        ∙ ap (λ (z : Bool). sentBy (gate k (unless (not z) 16 (vetTick t room)) y))
         (formed k w old law fits (v .stage) (v .due) (v .version) (i .facts .fit))
-        ∙ ap (λ (z : Verdict). sentBy (gate k z y)) (taken-32 t h)
+        ∙ ap (λ (z : Verdict). sentBy (gate k z y)) (tick-taken t room h z)
 
     -- one call, and then the rest
     first-then :
@@ -486,14 +487,14 @@ module _ (k : Kind) (w : List ℕ) (old : Record (k .Entry)) where
       tick-ends :
           (d : ℕ)
           → d ≤ g .pause
-          → Leads (at (reads waits) d) (tick (g .pause) 32 ∷ (saids (g .pages) ++ afterPages)) goal (asksList b ++ out)
+          → Leads (at (reads waits) d) (tick (g .pause) (g .room) ∷ (saids (g .pages) ++ afterPages)) goal (asksList b ++ out)
       unfolding see counts
       tick-ends d e =
           let v : Observer (k .Parts) = at (reads waits) d in
-          first-then v (at (begun b) (g .pause + 10000)) (tick (g .pause) 32) (saids (g .pages) ++ afterPages) goal (asksList b) out
-          (ap (λ (y : Verdict). counts k w old y v (seeTick k w old (reads waits) v (g .pause))) (taken-32 (g .pause) (h .pause-early))
+          first-then v (at (begun b) (g .pause + 10000)) (tick (g .pause) (g .room)) (saids (g .pages) ++ afterPages) goal (asksList b) out
+          (ap (λ (y : Verdict). counts k w old y v (seeTick k w old (reads waits) v (g .pause))) (tick-taken (g .pause) (g .room) (h .pause-early) (h .roomy))
           ∙ tick-turn d (g .pause) e)
-          (λ r i. ap others (tick-sent v r (g .pause) i (h .pause-early)) ∙ tick-asks d (g .pause) e)
+          (λ r i. ap others (tick-sent v r (g .pause) (g .room) i (h .pause-early) (h .roomy)) ∙ tick-asks d (g .pause) e)
           (begun-ends b (g .pause + 10000) refl (h .tells))
 
       set-first :
@@ -511,9 +512,9 @@ module _ (k : Kind) (w : List ℕ) (old : Record (k .Entry)) where
       all-ends =
           let v : Observer (k .Parts) = at (reads await) 0 in
           let t : ℕ = g .mode .time in
-          set-first (g .version) (said (g .mode) ∷ tick (g .pause) 32 ∷ (saids (g .pages) ++ afterPages)) goal (asksList b ++ out)
+          set-first (g .version) (said (g .mode) ∷ tick (g .pause) (g .room) ∷ (saids (g .pages) ++ afterPages)) goal (asksList b ++ out)
           (then v (at (reads waits) (t + 2000)) (g .mode)
-          (tick (g .pause) 32 ∷ (saids (g .pages) ++ afterPages)) goal [] (asksList b ++ out) (h .mode-fair) refl
+          (tick (g .pause) (g .room) ∷ (saids (g .pages) ++ afterPages)) goal [] (asksList b ++ out) (h .mode-fair) refl
           (ap (λ (y : Bool). seeTurn k w old (onMode k y t) v t) (h .mode-is))
           (ap (λ (y : Bool). others (sentBy (onTurn k (onMode k y t) (ofSeen v) t))) (h .mode-is))
           (tick-ends (t + 2000) (h .waited)))
@@ -531,7 +532,7 @@ module _ (k : Kind) (w : List ℕ) (old : Record (k .Entry)) where
       calls-bounded =
           omega (
             arith,
-            length-append (setting (g .version)) (said (g .mode) ∷ tick (g .pause) 32 ∷ (saids (g .pages) ++ afterPages)),
+            length-append (setting (g .version)) (said (g .mode) ∷ tick (g .pause) (g .room) ∷ (saids (g .pages) ++ afterPages)),
             setting-short (g .version),
             length-append (saids (g .pages)) afterPages,
             length-append (saids (g .replies)) tail,
@@ -564,12 +565,13 @@ module _ (k : Kind) (w : List ℕ) (old : Record (k .Entry)) where
           let known-are : Known = record { isRead = true; isWhole = b; pgns = notes (notes l (old .present)) (owes k w old g) } in
           record {
             finished = ap (λ s. s .phase) (i .same) ∙ ap (phaseOf k w old) e;
-            is-known = ap (λ (x : Known). x .isRead) (known-path v r e i);
+            known = known-path v r e i;
             served = λ p a y. ap (λ (x : Known). has p (x .pgns)) (known-path v r e i) ∙ all-served (k .pgnOf) p w l old a y;
             unlacking =
                 λ p a y.
                 ap (λ (x : Known). lacks x p) (known-path v r e i)
                 ∙ unlacked p known-are refl (all-served (k .pgnOf) p w l old a y);
+            excepted = λ p a y z. ap (λ (x : Known). has p (x .pgns)) (known-path v r e i) ∙ none-served (k .pgnOf) p w l old a y z;
             saved =
                 ap (λ s. s .rec .saved) (i .same)
                 ∙ ap (λ (st : St). recOf k w old st .saved) e

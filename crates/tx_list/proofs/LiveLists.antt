@@ -149,3 +149,61 @@ pub all-served :
     → has p (map g (r .refused)) ≡ false
     → has p (notes (notes l (r .present)) (owed g w l r)) ≡ true
 all-served g p w l r h c = served-by (has p l) (has p (r .present)) g p w l r refl refl h c
+
+-- one refused before that is on neither list is not served
+or-none : (a b : Bool) → a ≡ false → b ≡ false → (a || b) ≡ false
+or-none a b p q = rw (p, q) refl
+
+or-first : (a b : Bool) → (a || b) ≡ false → a ≡ false
+or-first true b e = e
+or-first false b e = refl
+
+or-second : (a b : Bool) → (a || b) ≡ false → b ≡ false
+or-second true b e = false-true (sym e)
+or-second false b e = e
+
+only-lacks : (p q : ℕ) (y : Bool) → eqb p q ≡ false → has p (only y q) ≡ false
+unfolding has only
+only-lacks p q true e = or-none (eqb p q) false e refl
+only-lacks p q false e = refl
+
+append-lacks : (p : ℕ) (xs ys : List ℕ) → has p xs ≡ false → has p ys ≡ false → has p (xs ++ ys) ≡ false
+append-lacks p xs ys a b = has-append p xs ys ∙ or-none (has p xs) (has p ys) a b
+
+note-lacks : (p q : ℕ) (kn : List ℕ) → has p kn ≡ false → eqb p q ≡ false → has p (note kn q) ≡ false
+unfolding note
+note-lacks p q kn a e = append-lacks p kn (only (not (has q kn)) q) a (only-lacks p q (not (has q kn)) e)
+
+notes-lacks : (p : ℕ) (kn qs : List ℕ) → has p kn ≡ false → has p qs ≡ false → has p (notes kn qs) ≡ false
+unfolding notes has
+notes-lacks p kn [] a b = a
+notes-lacks p kn (q ∷ qs) a b =
+    notes-lacks p (note kn q) qs (note-lacks p q kn a (or-first (eqb p q) (has p qs) b)) (or-second (eqb p q) (has p qs) b)
+
+and-false : (a b : Bool) → (a && b && false) ≡ false
+and-false true true = refl
+and-false true false = refl
+and-false false b = refl
+
+unowed-by : (y : Bool) (p q : ℕ) (f : ℕ → Bool) → eqb p q ≡ y → f p ≡ false → has p (only (f q) q) ≡ false
+unfolding has only
+unowed-by true p q f e t = ap (λ (z : Bool). has p (only z q)) (ap f (sym (eqb-true p q e)) ∙ t)
+unowed-by false p q f e t = only-lacks p q (f q) e
+
+owed-lacks : {E : Type 0} (g : E → ℕ) (p : ℕ) (w l : List ℕ) (r : Record E) → has p (map g (r .refused)) ≡ true → has p (owed g w l r) ≡ false
+unfolding owed has
+owed-lacks g p [] l r h = refl
+owed-lacks g p (q ∷ w) l r h =
+    append-lacks p (only (not (has q l) && not (has q (r .present)) && not (has q (map g (r .refused)))) q) (owed g w l r)
+    (unowed-by (eqb p q) p q (λ x. not (has x l) && not (has x (r .present)) && not (has x (map g (r .refused)))) refl
+    (ap (λ (z : Bool). not (has p l) && not (has p (r .present)) && not z) h ∙ and-false (not (has p l)) (not (has p (r .present)))))
+    (owed-lacks g p w l r h)
+
+pub none-served :
+    {E : Type 0} (g : E → ℕ) (p : ℕ) (w l : List ℕ) (r : Record E)
+    → has p (map g (r .refused)) ≡ true
+    → has p l ≡ false
+    → has p (r .present) ≡ false
+    → has p (notes (notes l (r .present)) (owed g w l r)) ≡ false
+none-served g p w l r h a b =
+    notes-lacks p (notes l (r .present)) (owed g w l r) (notes-lacks p l (r .present) a b) (owed-lacks g p w l r h)

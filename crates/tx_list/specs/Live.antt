@@ -6,7 +6,7 @@ use mathlib.Core.List.{List, [], _∷_, _++_, map}
 use mathlib.Core.Option.{Option, none, some}
 use Prim.Native.Nat.{ℕ, _+_, _≤_, _<_}
 use lib.ListN.{length}
-use Rattle.tx_list.specs.Views.{has, isMode, F1, adds, ends, neither, f1Of, added, F2, part, alien, f2Of, isAnswer, answerOf, isGood, Ack, good, nothing, ackOf}
+use Rattle.tx_list.specs.Views.{has, notes, isMode, F1, adds, ends, neither, f1Of, added, F2, part, alien, f2Of, isAnswer, answerOf, isGood, Ack, good, nothing, ackOf}
 use Rattle.tx_list.specs.Reading.{Command, read1, read40, read4F, enable, commit, activate, Kind, Call, message, tick, firmware, Reading, await, waits, second, first, isNew}
 use Rattle.tx_list.specs.Session.{Record, Known, Phase, reading, enabling, committing, activating, done, Session, Result, did, refuses, Ran, owed, Lacks, silent, lacks, step, settle, run}
 use Rattle.tx_list.specs.Observer.{brought, toSaved}
@@ -49,12 +49,13 @@ pub record Fair (x : Said) : Type 0 where
   pub short : length (x .bytes) ≤ 255
   pub roomy : 32 ≤ x .room
 
--- What a gateway says at a start-up, in order, with the list that it tells and the time of the one tick that is needed.
+-- What a gateway says at a start-up, in order, with the list that it tells, and the one tick that is needed: its time and the room it lends.
 -- The list is told by `pages` and then `close`: in Format 1 the messages with PGNs and the closing one, in Format 2 the parts and the last.
 pub record Gateway : Type 0 where
   pub version : Option ℕ
   pub mode : Said
   pub pause : ℕ
+  pub room : ℕ
   pub list : List ℕ
   pub pages : List Said
   pub close : Said
@@ -105,7 +106,7 @@ module _ (k : Kind) (w : List ℕ) (old : Record (k .Entry)) (g : Gateway) where
   startUp =
       setting (g .version)
       ++ (said (g .mode)
-      ∷ tick (g .pause) 32
+      ∷ tick (g .pause) (g .room)
       ∷ (saids (g .pages) ++ (said (g .close) ∷ (saids (g .replies) ++ ending fresh))))
 
   -- Format 1: any messages that add PGNs, in all at most the limit, then the closing one
@@ -130,6 +131,7 @@ module _ (k : Kind) (w : List ℕ) (old : Record (k .Entry)) (g : Gateway) where
     pub mode-is : isMode (g .mode .bytes) ≡ true
     pub waited : g .mode .time + 2000 ≤ g .pause
     pub pause-early : g .pause ≤ 18446744073709541615
+    pub roomy : 32 ≤ g .room
     pub close-fair : Fair (g .close)
     pub tells : Tells inTwo
     -- one good answer for each enable command: error 0 or -996
@@ -143,10 +145,20 @@ module _ (k : Kind) (w : List ℕ) (old : Record (k .Entry)) (g : Gateway) where
   -- THE CLAIM, of what the run gave
   pub record Started (r : Ran (k .Parts) (k .Entry)) : Type 0 where
     pub finished : r .session .phase ≡ done
-    pub is-known : r .session .known .isRead ≡ true
+    -- the known list: what the gateway told, the old present PGNs, those asked for
+    pub known :
+        r .session .known
+        ≡ record { isRead = true; isWhole = inTwo; pgns = notes (notes (g .list) (old .present)) owes }
     -- every wanted PGN that was not refused before is on the known list, so that `lacks` says nothing of it
     pub served : (p : ℕ) → has p w ≡ true → has p (map (k .pgnOf) (old .refused)) ≡ false → has p (r .session .known .pgns) ≡ true
     pub unlacking : (p : ℕ) → has p w ≡ true → has p (map (k .pgnOf) (old .refused)) ≡ false → lacks (r .session .known) p ≡ silent
+    -- only such a PGN is missing: one refused before that the gateway did not tell and that was not present
+    pub excepted :
+        (p : ℕ)
+        → has p (map (k .pgnOf) (old .refused)) ≡ true
+        → has p (g .list) ≡ false
+        → has p (old .present) ≡ false
+        → has p (r .session .known .pgns) ≡ false
     -- each PGN answered with error 0 and not saved before is saved, each answered with -996 is present, none is refused
     pub saved : r .session .rec .saved ≡ old .saved ++ fresh
     pub present : r .session .rec .present ≡ old .present ++ brought toPresent (texts (g .replies)) owes
