@@ -6,3 +6,4 @@ pub mod Example
 pub mod LiveLists
 pub mod Live
 pub mod LiveKept
+pub mod LiveExample
