@@ -4,18 +4,18 @@ use mathlib.Core.Path.{_≡_, refl, sym, ap, ap₂, _∙_, subst}
 use mathlib.Core.Bool.{Bool, true, false, not, _&&_}
 use mathlib.Core.List.{List, [], _∷_, _++_, append-nil, append-assoc}
 use mathlib.Core.Option.{Option, none, some}
-use Prim.Native.Nat.{ℕ, zero, suc, _+_, _*_, _-_, _≤_, _<_}
+use Prim.Native.Nat.{ℕ, suc, _+_, _*_, _≤_, _<_}
 use native.Mathlib.Omega.{arith}
-use lib.Dec.{T, leb, ltb, le→leb, lt→ltb, ltb→lt, nltb→le}
-use lib.ListN.{length, take, drop, length-append, length-drop, length-take}
+use lib.Dec.{leb, ltb}
+use lib.ListN.{length, take, drop, length-append, length-drop}
 use lib.Seq.{take-all}
-use Rattle.tx_list.specs.Views.{has, only, note, notes, isAnswer, Answer, answerOf, isDenied, isThere, isGood, isFresh, Ack, good, bad, nothing, ackOf, isMode, F1, adds, ends, neither, f1Of, added, F2, wrong, part, alien, f2Of}
-use Rattle.tx_list.specs.Reading.{Command, read1, read40, read4F, enable, commit, activate, Kind, Reading, await, waits, second, first, Turn, stay, goes, got, fails, isNew, start1, start2, onMode, onF1, onWhole, onF2, readMessage, opens, again2, again1, whenDue, readTick, full, Call, message, tick, firmware, Verdict, taken, refuse, unless, vetMessage, vetTick}
+use Rattle.tx_list.specs.Views.{only, notes, isAnswer, answerOf, isDenied, isThere, isGood, isFresh, Ack, good, bad, nothing, ackOf, isMode, F1, adds, ends, neither, f1Of, added, F2, wrong, part, alien, f2Of}
+use Rattle.tx_list.specs.Reading.{Command, enable, commit, activate, Kind, Reading, await, waits, second, first, Turn, stay, goes, got, fails, isNew, start1, start2, onMode, onF1, onWhole, onF2, readMessage, opens, again2, again1, whenDue, readTick, full, Call, message, tick, firmware, Verdict, taken, refuse, unless, vetMessage, vetTick}
 use Rattle.tx_list.specs.Session.{isDone, Record, Known, unknown, Phase, reading, enabling, committing, activating, done, Session, Result, did, refuses, owed, learn, marked, kept, allLe, AllLe, knownMax, becomes, begins, phaseCounts, partsOkay, countsFit, owes, sums, sumsFit, wellFormed, beginBy, oldBounds, begin, opened, knowing, onTurn, onNext, onAnswer, onCommit, onActivate, onMessage, expire, onTick, onFirmware, full14, gate, step, soundly, restart, Ran, settle, run}
 use Rattle.tx_list.specs.Session as model
 use Rattle.tx_list.specs.Observer.{Stage, reads, unread, asks, commits, activates, over, Observer, listRead, answers, activated, isOver, brought, toSaved, freshOf, watching, goOn, seenRead, seeTurn, seeAnswered, seeAnswer, seeCommit, seeActivate, seeMessage, seeLate, seeTick, seeFull, counts, see, seeAll}
 use Rattle.tx_list.specs.Demand.{toPresent, toRefused, owedOf, enables, gained, Claim, happened, Opening, new, again, open-with, wantedOf, oldOf, Demand3}
-use Rattle.tx_list.proofs.Lists.{only-length, brought-snoc, brought-answers, brought-length, owed-length, notes-append, notes-length, drop-next, take-next, drop-count, enables-append, passes, allLe-true, length-snoc, ltb-no, ltb-yes, both-true, left-true, gained-length, allLe-yes, brought-take}
+use Rattle.tx_list.proofs.Lists.{only-length, brought-snoc, brought-answers, brought-length, owed-length, notes-append, notes-length, drop-next, take-next, drop-count, enables-append, allLe-true, length-snoc, ltb-no, ltb-yes, both-true, left-true, gained-length, allLe-yes, brought-take}
 
 -- what a kind must satisfy
 pub record Lawful (k : Kind) : Type 0 where
@@ -453,9 +453,6 @@ module _ (k : Kind) (w : List ℕ) (old : Record (k .Entry)) where
   activate-lands nothing l b ms d f t sent h = quiet (at (activates l b ms) d f) sent h
 
   -- time runs out
-  abbrev pub Open : Stage P → Type 0
-  Open st = length (answers st) ≤ length (owedOf (k .pgnOf) w old (listRead st))
-
   late-asks :
       (y : Bool) (l : List ℕ) (b : Bool) (ms : List (List ℕ)) (d : ℕ) (f : Option ℕ) (sent : List Command)
       → Facts (asks l b ms) sent

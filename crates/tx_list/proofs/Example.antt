@@ -1,9 +1,9 @@
 -- Runs, computed. They pin the definitions that the session and the claim share: how a list is read, what is owed, how an answer is taken.
 -- Assumes nothing.
 use mathlib.Core.Path.{_≡_, refl}
-use mathlib.Core.Bool.{Bool, true, false}
+use mathlib.Core.Bool.{true, false}
 use mathlib.Core.List.{List, [], _∷_, _++_}
-use mathlib.Core.Option.{Option, none, some}
+use mathlib.Core.Option.{none, some}
 use Prim.Native.Nat.{ℕ}
 use native.Mathlib.Omega.{arith}
 use lib.Dec.{eqb}
@@ -13,8 +13,8 @@ use Rattle.field.specs.Fields.{field, signed32}
 use Rattle.replies.specs.Bem.{headerOf, dataOf}
 use Rattle.replies.specs.Modes.{foundMode, modeOf}
 use Rattle.tx_list.specs.Views.{has, only, note, notes, starts, sequence, parsed, isZero, isAlready, noError, isFound, isMode, pgnsAt, least, groupCount, listPgns, f1By, f1Of, added, f2By, f2Of, answerBy, isAnswer, answerOf, isDenied, isThere, isGood, isFresh, ackBy, ackOf}
-use Rattle.tx_list.specs.Reading.{Command, read1, read40, read4F, enable, commit, activate, Kind, Call, message, tick, firmware, unless, vetMessage, vetTick, full, readMessage, readTick, onMode, onF1, onWhole, onF2, start1, start2, opens, again1, again2, whenDue, isNew}
-use Rattle.tx_list.specs.Session.{Record, Known, unknown, Phase, done, activating, Session, Ran, begins, run, settle, step, gate, onFirmware, full14, onTick, expire, onMessage, onActivate, onCommit, onAnswer, onNext, onTurn, opened, knowing, becomes, wellFormed, countsFit, counts, phaseCounts, partsOkay, owes, sums, sumsFit, knownMax, kept, marked, learn, owed}
+use Rattle.tx_list.specs.Reading.{read1, read40, read4F, enable, commit, activate, Kind, Call, message, tick, firmware, unless, vetMessage, vetTick, full, readMessage, readTick, onMode, onF1, onWhole, onF2, start1, start2, opens, again1, again2, whenDue, isNew}
+use Rattle.tx_list.specs.Session.{Record, unknown, done, Ran, begins, run, settle, step, gate, onFirmware, full14, onTick, expire, onMessage, onActivate, onCommit, onAnswer, onNext, onTurn, opened, knowing, becomes, wellFormed, countsFit, counts, phaseCounts, partsOkay, owes, sums, sumsFit, knownMax, kept, marked, learn, owed}
 use Rattle.tx_list.proofs.Demand3.{Lawful}
 
 -- a small session that reads Format 1 only

@@ -1,15 +1,13 @@
 -- No call of a well formed session is refused with 16.
 -- Assumes nothing.
-use mathlib.Core.Path.{_≡_, refl, sym, ap, _∙_, subst}
+use mathlib.Core.Path.{_≡_, sym, subst}
 use mathlib.Core.Bool.{Bool, true, false, not}
 use mathlib.Core.List.{List, [], _∷_}
-use mathlib.Core.Option.{Option, none, some}
 use Prim.Native.Nat.{ℕ}
 use native.Mathlib.Omega.{arith}
-use lib.Dec.{leb, ltb}
-use lib.ListN.{length}
+use lib.Dec.{leb}
 use Rattle.tx_list.specs.Views.{isAnswer, Ack, good, bad, nothing, ackOf}
-use Rattle.tx_list.specs.Reading.{Kind, Turn, stay, goes, got, fails, readMessage, readTick, Call, message, tick, firmware, Verdict, taken, refuse, unless, vetMessage, vetTick}
+use Rattle.tx_list.specs.Reading.{Kind, Turn, stay, goes, got, fails, readMessage, readTick, Call, message, tick, firmware, Verdict, taken, unless, vetMessage, vetTick}
 use Rattle.tx_list.specs.Session.{Record, Known, Phase, reading, enabling, committing, activating, done, Session, Result, did, refuses, owed, opened, knowing, onTurn, onNext, onAnswer, onCommit, onActivate, onMessage, expire, onTick, onFirmware, full14, gate, wellFormed, step}
 
 module _ (k : Kind) where

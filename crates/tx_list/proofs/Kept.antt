@@ -12,7 +12,7 @@ use Rattle.tx_list.specs.Reading.{Command, Kind, Call, await}
 use Rattle.tx_list.specs.Session.{Record, Session, Result, did, refuses, Ran, allLe, AllLe, oldBounds, begins, begin, beginBy, restart, step, settle, run, soundly, wellFormed}
 use Rattle.tx_list.specs.Observer.{Observer, reads, watching, see, seeAll}
 use Rattle.tx_list.specs.Demand.{Claim, happened}
-use Rattle.tx_list.specs.Stored.{Store, wire, Answer, answer, called, Ran′, then, runs, Opening′, new, again, opens, wanted′, old′, Real, Shown, Demand3-kept, Faithful}
+use Rattle.tx_list.specs.Stored.{Store, wire, Answer, answer, called, Ran′, then, runs, Opening′, new, again, opens, wanted′, old′, Real, Demand3-kept, Faithful}
 use Rattle.tx_list.proofs.Lists.{ltb-no, allLe-yes}
 use Rattle.tx_list.proofs.Demand3.{Lawful, Inv, step-lands, run-lands, formed, start-lands, claimed}
 use Rattle.tx_list.proofs.Formed.{Fine, fine-step}

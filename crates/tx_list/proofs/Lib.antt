@@ -1,3 +1,4 @@
+-- Demand 3 and liveness, on plain lists and of any struct that keeps a session, and computed runs.
 pub mod Lists
 pub mod Demand3
 pub mod Formed

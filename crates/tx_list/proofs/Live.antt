@@ -1,8 +1,8 @@
 -- Liveness, proved: what a helpful start-up leads the observer to, and from it, by demand 3's invariant, what the session is then.
 -- Assumes nothing.
 use mathlib.Core.Path.{_≡_, refl, sym, ap, ap₂, _∙_, subst}
-use mathlib.Core.Bool.{Bool, true, false, not, _&&_}
-use mathlib.Core.List.{List, [], _∷_, _++_, map, append-nil, append-assoc}
+use mathlib.Core.Bool.{Bool, true, false, not}
+use mathlib.Core.List.{List, [], _∷_, _++_, append-nil, append-assoc}
 use mathlib.Core.Option.{Option, none, some}
 use Prim.Native.Nat.{ℕ, suc, _+_, _≤_, _<_}
 use native.Mathlib.Omega.{arith}
@@ -10,15 +10,15 @@ use borrow.Author.Tests.{lt-ltb, le-ltb, le-leb, lt-leb}
 use lib.Dec.{leb, ltb}
 use lib.ListN.{length, take, drop, length-append, length-drop}
 use lib.Seq.{take-all}
-use Rattle.tx_list.specs.Views.{has, notes, only, isFresh, answerOf, isMode, F2, wrong, part, alien, f2Of, F1, adds, ends, neither, f1Of, added, isAnswer, Ack, good, bad, nothing, ackOf}
-use Rattle.tx_list.specs.Reading.{Command, read1, read40, read4F, enable, commit, activate, Kind, Call, message, tick, firmware, Reading, await, waits, second, first, Turn, readMessage, readTick, onMode, onF1, onF2, onWhole, whenDue, opens, start1, start2, isNew, full, Verdict, taken, refuse, unless, vetMessage, vetTick}
-use Rattle.tx_list.specs.Session.{Record, Known, Phase, reading, enabling, committing, activating, done, Session, Result, did, refuses, Ran, owed, knowing, Lacks, silent, lacks, lacksBy, step, settle, run, gate, onMessage, onTurn, onAnswer, onCommit, onActivate, onTick, expire, wellFormed, full14, opened, onNext, onFirmware, AllLe, oldBounds, begins}
+use Rattle.tx_list.specs.Views.{has, notes, only, isFresh, answerOf, F2, F1, adds, ends, neither, f1Of, added, isAnswer, Ack}
+use Rattle.tx_list.specs.Reading.{Command, read1, read40, read4F, enable, commit, activate, Kind, Call, message, tick, firmware, await, waits, second, first, Turn, readMessage, readTick, onMode, onF1, onF2, onWhole, whenDue, opens, start1, start2, full, Verdict, taken, refuse, unless, vetMessage, vetTick}
+use Rattle.tx_list.specs.Session.{Record, Known, Phase, reading, enabling, committing, activating, done, Session, Result, did, refuses, Ran, silent, lacks, lacksBy, step, settle, run, gate, onMessage, onTurn, onAnswer, onCommit, onActivate, onTick, expire, full14, opened, onNext, onFirmware, AllLe, oldBounds, begins}
 use Rattle.tx_list.specs.Observer.{Stage, reads, asks, commits, activates, over, Observer, listRead, answers, brought, toSaved, freshOf, watching, goOn, seenRead, seeTurn, seeAnswered, seeAnswer, seeCommit, seeActivate, seeMessage, seeTick, seeFull, counts, see, seeAll}
-use Rattle.tx_list.specs.Demand.{toPresent, toRefused, owedOf, enables, gained, Opening, open-with, wantedOf, oldOf}
+use Rattle.tx_list.specs.Demand.{owedOf, gained, wantedOf, oldOf}
 use Rattle.tx_list.specs.Live.{others, asksList, closes, Gateway, inTwo, TellsFirst, Unwhole, Tells, setting, Mixed, end, next, idle, lost, Idle, Dull, NotDue, Said, isPage, said, saids, texts, listed, Each, Fair, owes, fresh, ending, startUp, Helpful, Started, Live}
 use Rattle.tx_list.proofs.Lists.{length-snoc, owed-length, brought-snoc}
 use Rattle.tx_list.proofs.LiveLists.{false-true, GoodReply, known-all, refused-none, all-served, none-served}
-use Rattle.tx_list.proofs.Demand3.{Lawful, Inv, formed, same-full, step-lands, run-lands, start-lands, opening-start, Start, mk, recOf, knownOf, phaseOf, toKnown}
+use Rattle.tx_list.proofs.Demand3.{Lawful, Inv, formed, same-full, step-lands, run-lands, start-lands, opening-start, Start, mk, recOf, knownOf, phaseOf}
 
 -- a fair message is refused at most with 14
 fair-taken : (x : Said) → Fair x → vetMessage (x .time) (x .bytes) (x .room) false ≡ taken

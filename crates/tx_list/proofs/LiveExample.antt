@@ -1,6 +1,6 @@
 -- A start-up with numbers: the conditions of liveness can be met.
 -- Assumes nothing.
-use mathlib.Core.Path.{_≡_, refl}
+use mathlib.Core.Path.{refl}
 use mathlib.Core.List.{List, [], _∷_}
 use mathlib.Core.Option.{none}
 use Prim.Native.Nat.{ℕ}
@@ -12,7 +12,7 @@ use Rattle.tx_list.specs.Views.{has, only, starts, sequence, parsed, isZ
 use Rattle.tx_list.specs.Reading.{Kind, Call}
 use Rattle.tx_list.specs.Session.{Record, Ran, owed, begin, beginBy, begins, run, settle, step}
 use Rattle.tx_list.specs.Demand.{new, open-with, wantedOf, oldOf}
-use Rattle.tx_list.specs.Live.{Said, isPage, Gateway, startUp, Helpful, Started, Mixed, end, next, Live}
+use Rattle.tx_list.specs.Live.{isPage, Gateway, startUp, Helpful, Started, Mixed, end, next, Live}
 use Rattle.tx_list.proofs.Example.{small, small-lawful}
 use Rattle.tx_list.proofs.Live.{live}
 

@@ -1,6 +1,6 @@
 -- Liveness of what memory keeps: the struct's run is the run on plain lists.
 -- Assumes nothing.
-use mathlib.Core.Path.{_≡_, sym, subst}
+use mathlib.Core.Path.{sym, subst}
 use mathlib.Core.List.{List, []}
 use Prim.Native.Nat.{ℕ}
 use Rattle.tx_list.specs.Reading.{Kind}

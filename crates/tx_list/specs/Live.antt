@@ -6,9 +6,9 @@ use mathlib.Core.List.{List, [], _∷_, _++_, map}
 use mathlib.Core.Option.{Option, none, some}
 use Prim.Native.Nat.{ℕ, _+_, _≤_, _<_}
 use lib.ListN.{length}
-use Rattle.tx_list.specs.Views.{has, notes, isMode, F1, adds, ends, neither, f1Of, added, F2, part, alien, f2Of, isAnswer, answerOf, isGood, Ack, good, nothing, ackOf}
-use Rattle.tx_list.specs.Reading.{Command, read1, read40, read4F, enable, commit, activate, Kind, Call, message, tick, firmware, Reading, await, waits, second, first, isNew}
-use Rattle.tx_list.specs.Session.{Record, Known, Phase, reading, enabling, committing, activating, done, Session, Result, did, refuses, Ran, owed, Lacks, silent, lacks, step, settle, run}
+use Rattle.tx_list.specs.Views.{has, notes, isMode, F1, adds, ends, neither, f1Of, added, part, alien, f2Of, isAnswer, answerOf, isGood, good, nothing, ackOf}
+use Rattle.tx_list.specs.Reading.{Command, read1, read40, read4F, enable, commit, activate, Kind, Call, message, tick, firmware, await, waits, second, first, isNew}
+use Rattle.tx_list.specs.Session.{Record, Phase, reading, enabling, committing, activating, done, Session, did, refuses, Ran, owed, silent, lacks, step, settle, run}
 use Rattle.tx_list.specs.Observer.{brought, toSaved}
 use Rattle.tx_list.specs.Demand.{toPresent, enables, Opening, open-with, wantedOf, oldOf}
 

@@ -2,10 +2,9 @@
 -- `write` writes a session over it, from the first place of each list on, and what stands past a list stays.
 -- Assumes nothing.
 use mathlib.Core.Path.{_≡_}
-use mathlib.Core.Bool.{Bool, true, false}
+use mathlib.Core.Bool.{Bool, true}
 use mathlib.Core.List.{List, [], _∷_, _++_}
 use Prim.Native.Nat.{ℕ}
-use lib.ListN.{length}
 use Rattle.tx_list.specs.Reading.{Command, Kind, Call}
 use Rattle.tx_list.specs.Session.{Record, Session, Result, did, refuses, begin, restart, abandon, step, soundly, wellFormed}
 use Rattle.tx_list.specs.Demand.{Claim, happened}
