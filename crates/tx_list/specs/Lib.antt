@@ -5,4 +5,6 @@ pub mod Session
 pub mod Observer
 pub mod Demand
 pub mod Stored
+pub mod Memory
+pub mod Moves
 pub mod Live
