@@ -1,0 +1,2 @@
+pub mod MemoryLists
+pub mod MemoryFaithful
