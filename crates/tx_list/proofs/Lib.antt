@@ -1,2 +1,3 @@
 pub mod MemoryLists
 pub mod MemoryFaithful
+pub mod MovesBuffers
