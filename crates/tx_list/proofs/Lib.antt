@@ -1,3 +1,4 @@
 pub mod MemoryLists
 pub mod MemoryFaithful
 pub mod MovesBuffers
+pub mod MovesSound
