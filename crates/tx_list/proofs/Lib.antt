@@ -2,3 +2,4 @@ pub mod MemoryLists
 pub mod MemoryFaithful
 pub mod MovesBuffers
 pub mod MovesSound
+pub mod MovesHeard
