@@ -465,3 +465,92 @@ module _ (k : Kind) (h : Flat (k .Parts) (k .Entry)) (z : Sized k h) (g : AllLe 
   heard-is Committing t m e o w f = by-commit (ackOf (k .strict) 0x01 m) t
   heard-is Activating t m e o w f = by-activate (ackOf (k .strict) 0x4B m) t (w .0)
   heard-is Done t m e o w f = still
+
+  by-open : (y : Bool) (t : ℕ) → Does k h (onTurn k (opens k y t) σ t) (pick y (startF2 k h 1 t) (startF1 k h 1 t))
+  unfolding opens start1 start2 onTurn
+  by-open true t = gives _ [] (flat-phase _ _)
+  by-open false t = gives _ [] (flat-phase _ _)
+
+  by-again2 : (y : Bool) (a t : ℕ) → Does k h (onTurn k (again2 k y a t) σ t) (pick y (startF2 k h (a + 1) t) (startF1 k h 1 t))
+  unfolding again2 start1 start2 onTurn
+  by-again2 true a t = gives _ [] (flat-phase _ _ ∙ ap (λ n. startF2 k h n t .flat) (sym (add-one a)))
+  by-again2 false a t = gives _ [] (flat-phase _ _)
+
+  -- the session ends, with no list known
+  gave-up : Does k h (did (becomes k σ (σ .rec) unknown done (σ .deadline)) [] []) (givesUp k h)
+  unfolding unknown
+  gave-up = gives [] [] (flat-known _ _ _)
+
+  by-again1 : (y : Bool) (a t : ℕ) → Does k h (onTurn k (again1 k y a t) σ t) (pick y (startF1 k h (a + 1) t) (givesUp k h))
+  unfolding again1 start1 onTurn
+  by-again1 true a t = gives _ [] (flat-phase _ _ ∙ ap (λ n. startF1 k h n t .flat) (sym (add-one a)))
+  by-again1 false a t = gave-up
+
+  by-due :
+      (y : Bool) (v : Turn (k .Parts)) (x : Moved (k .Parts) (k .Entry)) (t : ℕ)
+      → Does k h (onTurn k v σ t) x
+      → Does k h (onTurn k (whenDue k y v) σ t) (pick y x (stays h))
+  unfolding whenDue onTurn
+  by-due true v x t e = e
+  by-due false v x t e = still
+
+  by-expire : (y : Bool) → Does k h (expire k y σ) (pick y (ends′ k h) (stays h))
+  unfolding expire
+  by-expire true = gives [] [] (flat-phase _ _)
+  by-expire false = still
+
+  stays-by : (y : Bool) → Does k h (did σ [] []) (pick y (stays h) (stays h))
+  stays-by true = still
+  stays-by false = still
+
+  by-state : (st : State) (t : ℕ) → Does k h (onTick k (phaseIn st h) σ t) (pick (leb (h .deadline) t) (late k st h t) (stays h))
+  unfolding onTick readTick late onTurn
+  by-state AwaitStartup t = stays-by (leb (h .deadline) t)
+  by-state ReadAt t =
+      by-due (leb (h .deadline) t) _ _ t
+      (subst
+      (λ y. Does k h (onTurn k (opens k (k .two && isNew (firmwareBy (h .told) (h .version))) t) σ t) (pick (k .two && y) (startF2 k h 1 t) (startF1 k h 1 t)))
+      (new-firmware (h .told) (h .version))
+      (by-open (k .two && isNew (firmwareBy (h .told) (h .version))) t))
+  by-state (ReadingF2 a) t = by-due (leb (h .deadline) t) _ _ t (by-again2 (ltb a 3) a t)
+  by-state (ReadingF1 a) t = by-due (leb (h .deadline) t) _ _ t (by-again1 (ltb a 3) a t)
+  by-state Enabling t = by-expire (leb (h .deadline) t)
+  by-state Committing t = by-expire (leb (h .deadline) t)
+  by-state Activating t = by-expire (leb (h .deadline) t)
+  by-state Done t = stays-by (leb (h .deadline) t)
+
+  -- a tick
+  pub ticked-is : (t : ℕ) → Does k h (onTick k (σ .phase) σ t) (ticked k h t)
+  unfolding ticked
+  ticked-is t = by-state (h .state) t
+
+  -- a firmware setting
+  pub firmware-is : (v : ℕ) → Does k h (onFirmware k σ v) (record { flat = withFirmware h true v; sent = []; handed = [] })
+  unfolding onFirmware
+  firmware-is v = gives [] [] (ap (λ x. withFirmware x true v) flat-same)
+
+  pub abandon-is : Does k h (did (becomes k σ (σ .rec) unknown done (σ .deadline)) [] []) (givesUp k h)
+  abandon-is = gave-up
+
+  pub restart-is : Does k h (did (begins k (σ .wanted) (σ .rec)) [] []) (record { flat = starts′ k h; sent = []; handed = [] })
+  unfolding begins unknown
+  restart-is =
+      gives [] []
+      (λ i.
+      record {
+        state = AwaitStartup;
+        wanted = fill-live (h .wanted) (omega arith) i;
+        owed = h .owed;
+        fresh = h .fresh;
+        list = h .list;
+        f2 = h .f2;
+        isKnown = false;
+        complete = false;
+        known = emptied (h .known);
+        saved = fill-live (h .saved) (omega arith) i;
+        present = fill-live (h .present) (omega arith) i;
+        refused = fill-live (h .refused) (omega arith) i;
+        deadline = 0;
+        told = false;
+        version = h .version;
+      })
