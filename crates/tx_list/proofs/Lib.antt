@@ -3,3 +3,4 @@ pub mod MemoryFaithful
 pub mod MovesBuffers
 pub mod MovesSound
 pub mod MovesHeard
+pub mod MovesLaws

@@ -1,14 +1,14 @@
 -- Arrays and counts are a faithful store, at any limits.
 -- Assumes nothing.
 use mathlib.Core.Path.{_≡_, refl, sym, ap, ap₂, _∙_, subst}
-use mathlib.Core.Bool.{Bool, true, false, _&&_}
-use mathlib.Core.List.{List, [], _∷_, _++_}
+use mathlib.Core.Bool.{Bool, true, _&&_}
+use mathlib.Core.List.{List, [], _∷_}
 use mathlib.Core.Option.{Option, none, some}
 use Prim.Native.Nat.{ℕ, _+_, _≤_}
 use native.Mathlib.Omega.{arith}
 use lib.ListN.{length, take, drop, length-replicate}
-use lib.Seq.{sets, sets-eq, length-sets, take-at}
-use Rattle.tx_list.specs.Reading.{Command, Kind, Reading, await, waits, second, first}
+use lib.Seq.{sets-eq, length-sets, take-at}
+use Rattle.tx_list.specs.Reading.{Command, Kind, await, waits, second, first}
 use Rattle.tx_list.specs.Session as model
 use Rattle.tx_list.specs.Session.{Session, reading, enabling, committing, activating, done, allLe, AllLe, knownMax, wellFormed, countsFit, partsOkay, phaseCounts, owes, sumsFit}
 use Rattle.tx_list.specs.Stored.{Faithful}

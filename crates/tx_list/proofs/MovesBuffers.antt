@@ -2,11 +2,11 @@
 -- Assumes nothing.
 use mathlib.Core.Path.{_≡_, refl, sym, ap, _∙_}
 use mathlib.Core.Bool.{Bool, true, false, not, _&&_}
-use mathlib.Core.List.{List, [], _∷_, _++_, append-nil, append-assoc}
+use mathlib.Core.List.{List, [], _∷_, _++_, append-nil}
 use Prim.Native.Nat.{ℕ, zero, suc, _+_, _≤_, _<_}
 use native.Mathlib.Omega.{arith}
-use lib.ListN.{length, take, drop, getD, set, take-append-drop, length-append}
-use lib.Seq.{sets, sets-eq, set-split, length-take-le}
+use lib.ListN.{length, take, drop, getD, take-append-drop, length-append}
+use lib.Seq.{sets, sets-eq, length-take-le}
 use Rattle.field.specs.Pick.{pick}
 use Rattle.tx_list.specs.Views.{has, only, note, notes}
 use Rattle.tx_list.specs.Memory.{Buf, live, fill}

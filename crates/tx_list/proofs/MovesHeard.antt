@@ -1,25 +1,25 @@
 -- What a message, a tick, a firmware setting, abandon and restart do to a session in memory is what module 6 says.
 -- Assumes nothing.
 use mathlib.Core.Path.{_≡_, refl, sym, ap, _∙_, subst}
-use mathlib.Core.Bool.{Bool, true, false, not, _&&_}
+use mathlib.Core.Bool.{Bool, true, false, _&&_}
 use mathlib.Core.List.{List, [], _∷_, _++_, append-nil}
 use mathlib.Core.Option.{Option, none, some}
-use Prim.Native.Nat.{ℕ, zero, suc, _+_, _≤_, _<_}
+use Prim.Native.Nat.{ℕ, _+_, _≤_, _<_}
 use native.Mathlib.Omega.{arith}
 use native.Mathlib.Numerals.{add-one}
 use lib.Dec.{leb, ltb, eqb}
 use lib.ListN.{length, take, drop, getD, length-append}
 use Rattle.field.specs.Pick.{pick}
-use Rattle.tx_list.specs.Views.{has, only, notes, isMode, F1, adds, ends, neither, f1Of, added, F2, wrong, part, alien, f2Of, Answer, isAnswer, answerOf, isDenied, isThere, isGood, isFresh, Ack, good, bad, nothing, ackOf}
+use Rattle.tx_list.specs.Views.{only, isMode, F1, adds, ends, neither, f1Of, added, F2, wrong, part, alien, f2Of, Answer, isAnswer, answerOf, isDenied, isThere, isGood, isFresh, Ack, good, bad, nothing, ackOf}
 use Rattle.tx_list.specs.Reading.{Command, enable, commit, activate, Kind, Turn, onMode, onF1, onF2, onWhole, start1, start2, readMessage, readTick, opens, again2, again1, whenDue, isNew}
 use Rattle.tx_list.specs.Session as model
-use Rattle.tx_list.specs.Session.{Record, Known, Session, Result, did, refuses, reading, enabling, committing, activating, done, AllLe, knownMax, becomes, begins, unknown, learn, marked, kept, owed, opened, knowing, onTurn, onNext, onAnswer, onCommit, onActivate, onMessage, onTick, onFirmware, expire}
+use Rattle.tx_list.specs.Session.{Record, Known, Session, Result, did, refuses, enabling, committing, done, AllLe, knownMax, becomes, begins, unknown, learn, marked, kept, owed, opened, knowing, onTurn, onNext, onAnswer, onCommit, onActivate, onMessage, onTick, onFirmware, expire}
 use Rattle.tx_list.specs.Memory.{Buf, live, fill, Flat, phaseIn, stateAs, firmwareBy, toldAs, versionAs, owedAs, freshAs, listAs, partsAs, absFlat, writeFlat, counts, Sized}
-use Rattle.tx_list.specs.Moves.{pushIf, append, emptied, owesIn, sumsIn, fullIn, Moved, stays, goTo, withList, withOwed, withRecord, withFirmware, forgets, startF1, startF2, ends′, givesUp, waitsFrom, addsTo, puts, asks, knows, gets, oldest, marks, asksNext, commits, closes, goesOn, answered, committed, activated, turnedDown, inF1, inWhole, inF2, heard, late, ticked, starts′}
+use Rattle.tx_list.specs.Moves.{pushIf, emptied, owesIn, sumsIn, fullIn, Moved, stays, goTo, withList, withOwed, withFirmware, startF1, startF2, ends′, givesUp, waitsFrom, puts, asks, knows, oldest, marks, asksNext, commits, closes, goesOn, answered, committed, activated, inF1, inWhole, inF2, heard, late, ticked, starts′}
 use Rattle.tx_list.specs.declared.State.{State}
 use Rattle.tx_list.specs.declared.State.the-variants.{AwaitStartup, ReadAt, ReadingF2, Reading as ReadingF1, Enabling, Committing, Activating, Done}
 use Rattle.tx_list.proofs.MovesBuffers.{live-length, fill-live, fill-append, fill-pushIf, fill-noted, first-of, second-of, single-of}
-use borrow.Author.Tests.{ltb-true, ltb-false, eqb-true, eqb-false, ne-eqb, eq-eqb}
+use borrow.Author.Tests.{ltb-true, ltb-false, eqb-true, eqb-false}
 
 -- a result, written over h, is x
 abbrev pub Does : (k : Kind) → Flat (k .Parts) (k .Entry) → Result (k .Parts) (k .Entry) → Moved (k .Parts) (k .Entry) → Type 0
@@ -107,6 +107,30 @@ next-commit :
 unfolding onNext
 next-commit k [] s r kn t e = absurd (omega arith)
 next-commit k (f ∷ fresh) s r kn t e = refl
+
+-- a new session, written over h
+pub begins-flat :
+    (k : Kind) (h : Flat (k .Parts) (k .Entry)) (w : List ℕ) (r : Record (k .Entry))
+    → writeFlat h (begins k w r)
+    ≡ record {
+      state = AwaitStartup;
+      wanted = fill (h .wanted) w;
+      owed = h .owed;
+      fresh = h .fresh;
+      list = h .list;
+      f2 = h .f2;
+      isKnown = false;
+      complete = false;
+      known = emptied (h .known);
+      saved = fill (h .saved) (r .saved);
+      present = fill (h .present) (r .present);
+      refused = fill (h .refused) (r .refused);
+      deadline = 0;
+      told = false;
+      version = h .version;
+    }
+unfolding begins unknown
+begins-flat k h w r = refl
 
 module _ (k : Kind) (h : Flat (k .Parts) (k .Entry)) (z : Sized k h) (g : AllLe (counts k h)) where
   abbrev σ : Session (k .Parts) (k .Entry)

@@ -3,21 +3,21 @@
 use mathlib.Core.Path.{_≡_, refl, sym, ap, ap₂, _∙_}
 use mathlib.Core.Bool.{Bool, true, false, _&&_}
 use mathlib.Core.List.{List, [], _∷_}
-use Prim.Native.Nat.{ℕ, zero, suc, _+_, _≤_, _<_}
+use Prim.Native.Nat.{ℕ, suc, _+_}
 use native.Mathlib.Omega.{arith}
-use lib.Dec.{leb, ltb}
-use lib.ListN.{length, take}
+use lib.Dec.{ltb}
+use lib.ListN.{length}
 use Rattle.tx_list.specs.Views.{added, f1Of}
 use Rattle.tx_list.specs.Reading.{Kind, full}
 use Rattle.tx_list.specs.Session as model
-use Rattle.tx_list.specs.Session.{allLe, AllLe, knownMax, wellFormed, countsFit, partsOkay, phaseCounts, owes, sums, sumsFit, full14, enabling}
-use Rattle.tx_list.specs.Memory.{Buf, live, Flat, phaseIn, absFlat, counts, Sized}
-use Rattle.tx_list.specs.Moves.{formatIn, owesIn, sumsIn, soundIn, fullIn}
+use Rattle.tx_list.specs.Session.{allLe, AllLe, knownMax, wellFormed, countsFit, partsOkay, phaseCounts, owes, sums, sumsFit, full14, enabling, oldBounds}
+use Rattle.tx_list.specs.Memory.{live, Flat, phaseIn, absFlat, counts, Sized}
+use Rattle.tx_list.specs.Moves.{formatIn, owesIn, sumsIn, soundIn, fullIn, oldIn}
 use Rattle.tx_list.specs.declared.State.{State}
 use Rattle.tx_list.specs.declared.State.the-variants.{AwaitStartup, ReadAt, ReadingF2, Reading as ReadingF1, Enabling, Committing, Activating, Done}
 use Rattle.tx_list.proofs.MemoryLists.{left-true, right-true, and-true, allLe-true, allLe-yes}
 use Rattle.tx_list.proofs.MovesBuffers.{live-length}
-use borrow.Author.Tests.{ltb-true, lt-ltb}
+use borrow.Author.Tests.{lt-ltb, le-ltb}
 
 module _ (k : Kind) (h : Flat (k .Parts) (k .Entry)) (z : Sized k h) (g : AllLe (counts k h)) where
   wa : length (live (h .wanted)) ≡ h .wanted .n
@@ -127,6 +127,13 @@ module _ (k : Kind) (h : Flat (k .Parts) (k .Entry)) (z : Sized k h) (g : AllLe 
   full-is m Committing = refl
   full-is m Activating = refl
   full-is m Done = refl
+
+  -- what restart looks at
+  pub wanted-fits : ltb (k .wantMax) (length (live (h .wanted))) ≡ false
+  wanted-fits = ap (ltb (k .wantMax)) wa ∙ le-ltb (k .wantMax) (h .wanted .n) (omega arith)
+
+  pub old-same : oldBounds k (absFlat h .rec) ≡ oldIn h
+  old-same = λ i. (sa i, 192) ∷ (pr i, 192) ∷ (re i, 192) ∷ []
 
 -- 16
 pub sound-is :
