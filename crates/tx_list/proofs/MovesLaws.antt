@@ -8,7 +8,6 @@ use native.Mathlib.Omega.{arith}
 use lib.Dec.{ltb}
 use lib.ListN.{length}
 use Rattle.tx_list.specs.Reading.{Command, Kind, message, tick, firmware, Verdict, taken, refuse, unless, vetMessage, vetTick}
-use Rattle.tx_list.specs.Session as model
 use Rattle.tx_list.specs.Session.{Record, Result, did, refuses, allLe, wellFormed, gate, soundly, step, begin, beginBy, oldBounds, restart, abandon, begins, full14, onMessage, onTick, onFirmware}
 use Rattle.tx_list.specs.Stored.{Store, answer, called, opens, abandoned, new, again}
 use Rattle.tx_list.specs.Memory.{Flat, writeFlat, Sized, storeBy}
