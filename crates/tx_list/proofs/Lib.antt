@@ -8,3 +8,9 @@ pub mod LiveLists
 pub mod Live
 pub mod LiveKept
 pub mod LiveExample
+pub mod MemoryLists
+pub mod MemoryFaithful
+pub mod MovesBuffers
+pub mod MovesSound
+pub mod MovesHeard
+pub mod MovesLaws

@@ -5,5 +5,7 @@ pub mod Session
 pub mod Observer
 pub mod Demand
 pub mod Stored
+pub mod Memory
+pub mod Moves
 pub mod Live
 pub mod LiveKept
