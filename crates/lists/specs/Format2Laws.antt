@@ -1,0 +1,1 @@
+-- Format2Laws. Assumes nothing.

@@ -1,0 +1,1 @@
+-- MapLaws. Assumes nothing.

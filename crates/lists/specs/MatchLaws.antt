@@ -1,0 +1,1 @@
+-- MatchLaws. Assumes nothing.

@@ -1,0 +1,1 @@
+-- PartsLaws. Assumes nothing.
