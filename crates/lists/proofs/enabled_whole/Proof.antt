@@ -1,0 +1,68 @@
+use borrow.Author.Needs.{needs}
+use Rattle.lists.proofs.enabled_whole.Statement.{statement}
+use Rattle.lists.proofs.enabled_whole.Tie as tie
+use Rattle.lists.proofs.enabled_whole.Reads as reads
+use Rattle.lists.proofs.enabled_whole.Lts as lts
+
+abbrev Inv-loop : tie.InvT-loop
+Inv-loop p size k₀ k = ?
+
+abbrev μ-loop : tie.MeasureT-loop
+μ-loop p size k₀ k = ?
+
+-- src/lib.rt:317:9
+returns : tie.Need-returns Inv-loop μ-loop
+returns c = search needs
+
+-- src/lib.rt:319:16
+cast-size : tie.Need-cast-size Inv-loop μ-loop
+cast-size c = search needs
+
+-- src/lib.rt:321:5
+loop-holds : tie.Need-loop-holds Inv-loop μ-loop
+loop-holds c = search needs
+
+-- src/lib.rt:322:13
+mul-if2 : tie.Need-mul-if2 Inv-loop μ-loop
+mul-if2 c = search needs
+
+-- src/lib.rt:322:13
+element-copy-out-if2 : tie.Need-element-copy-out-if2 Inv-loop μ-loop
+element-copy-out-if2 c = search needs
+
+-- src/lib.rt:323:13
+returns-2 : tie.Need-returns-2 Inv-loop μ-loop
+returns-2 c = search needs
+
+-- src/lib.rt:325:9
+add-k : tie.Need-add-k Inv-loop μ-loop
+add-k c = search needs
+
+-- src/lib.rt:321:5
+loop-less : tie.Need-loop-less Inv-loop μ-loop
+loop-less c = search needs
+
+-- src/lib.rt:321:5
+loop-again : tie.Need-loop-again Inv-loop μ-loop
+loop-again c = search needs
+
+-- src/lib.rt:313:1
+returns-3 : tie.Need-returns-3 Inv-loop μ-loop
+returns-3 c = search needs
+
+pub enabled-whole-spec : {M : Type 1} → statement M
+enabled-whole-spec =
+    tie.close
+    (tie.spec
+    Inv-loop
+    μ-loop
+    returns
+    cast-size
+    loop-holds
+    mul-if2
+    element-copy-out-if2
+    returns-2
+    add-k
+    loop-less
+    loop-again
+    returns-3)
