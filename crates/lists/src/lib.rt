@@ -3,7 +3,7 @@
 // Numbers: 16, the proprietary count passes 512; 7, the lent list is under 767.
 ghost use mathlib.Core.Path.{_≡_};
 ghost use mathlib.Core.List.{_++_};
-ghost use Prim.Native.Nat.{_+_, _*_, _≤_, _<_, _^_};
+ghost use Prim.Native.Nat.{_+_, _*_, _≤_, _<_, _^_, min};
 ghost use lib.ListN.{length, take};
 ghost use lib.Seq.{sets};
 ghost use Rattle.field.specs.Puts.{Puts};
@@ -166,6 +166,12 @@ fn add_proprietary(p: Proprietary, data: &[u8]) -> Proprietary
     Proprietary { told: true, list }
 }
 
+fn least(a: usize, b: usize) -> usize
+    ensures { λ r. ⌜ r ≡ min a b ⌝ }
+{
+    if a < b { a } else { b }
+}
+
 // How many entries a part gives: the least of count, whole entries present, and places from first below size.
 fn entries_read(data: &[u8], at: usize) -> usize
     requires { ⌜ at + 3 ≤ length (now «data») ⌝ }
@@ -173,18 +179,11 @@ fn entries_read(data: &[u8], at: usize) -> usize
 {
     let size = data[at] as usize;
     let first = data[at + 1] as usize;
-    let count = data[at + 2] as usize;
     if size <= first {
         return 0;
     }
-    let mut n = (data.len() - (at + 3)) / 4;
-    if count < n {
-        n = count;
-    }
-    if size - first < n {
-        n = size - first;
-    }
-    n
+    let present = (data.len() - (at + 3)) / 4;
+    least(data[at + 2] as usize, least(present, size - first))
 }
 
 // A new size starts blank.
@@ -274,9 +273,6 @@ fn add_supported_part(p: SupportedParts, data: &[u8]) -> SupportedParts
 {
     let n = entries_read(data, 7);
     let q = resize_supported(p, data[7]);
-    if n == 0 {
-        return q;
-    }
     place_supported(q, data, data[8] as usize, n)
 }
 
@@ -286,9 +282,6 @@ fn add_enabled_part(p: EnabledParts, data: &[u8]) -> EnabledParts
 {
     let n = entries_read(data, 5);
     let q = resize_enabled(p, data[5]);
-    if n == 0 {
-        return q;
-    }
     place_enabled(q, data, data[6] as usize, n)
 }
 
@@ -347,8 +340,8 @@ fn first_places(p: SupportedParts) -> [u8; 256]
     let mut k = p.size;
     while 0 < k {
         k -= 1;
-        let index = p.entries[k as usize].index;
-        table[index as usize] = k;
+        let entry = p.entries[k as usize];
+        table[entry.index as usize] = k;
     }
     table
 }
@@ -363,10 +356,10 @@ fn enabled_pgns(s: SupportedParts, e: EnabledParts, out: &mut [u32]) -> usize
     let mut n: usize = 0;
     let mut k: usize = 0;
     while k < size {
-        let index = e.entries[k].index;
-        let place = table[index as usize];
+        let entry = e.entries[k];
+        let place = table[entry.index as usize] as usize;
         if place < 255 {
-            out[n] = s.entries[place as usize].pgn;
+            out[n] = s.entries[place].pgn;
             n += 1;
         }
         k += 1;

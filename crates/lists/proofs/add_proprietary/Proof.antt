@@ -12,11 +12,11 @@ map-end-requires c κs = search needs
 
 -- src/lib.rt:158:9
 map-end-requires-2 : tie.Need-map-end-requires-2
-map-end-requires-2 c κs = search needs
+map-end-requires-2 c κs = ?
 
 -- src/lib.rt:160:9
 returns : tie.Need-returns
-returns c = search needs
+returns c = ?
 
 -- src/lib.rt:162:17
 sub-first : tie.Need-sub-first
@@ -52,7 +52,7 @@ maps-list-requires c κs = search needs
 
 -- src/lib.rt:154:1
 returns-2 : tie.Need-returns-2
-returns-2 c = search needs
+returns-2 c = ?
 
 pub add-proprietary-spec : {M : Type 1} → statement M
 add-proprietary-spec =

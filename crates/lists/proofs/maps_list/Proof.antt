@@ -16,7 +16,7 @@ map-count-requires-2 c κs = search needs
 
 -- src/lib.rt:139:13
 add-n : tie.Need-add-n
-add-n c = search needs
+add-n c = ?
 
 -- src/lib.rt:141:29
 slice-aggregate-map-pgns : tie.Need-slice-aggregate-map-pgns
@@ -24,7 +24,7 @@ slice-aggregate-map-pgns c = search needs
 
 -- src/lib.rt:141:5
 map-pgns-requires : tie.Need-map-pgns-requires
-map-pgns-requires c κs = search needs
+map-pgns-requires c κs = ?
 
 -- src/lib.rt:142:31
 slice-aggregate-map-pgns-2 : tie.Need-slice-aggregate-map-pgns-2
@@ -32,11 +32,11 @@ slice-aggregate-map-pgns-2 c = search needs
 
 -- src/lib.rt:142:5
 map-pgns-requires-2 : tie.Need-map-pgns-requires-2
-map-pgns-requires-2 c κs = search needs
+map-pgns-requires-2 c κs = ?
 
 -- src/lib.rt:135:1
 returns : tie.Need-returns
-returns c = search needs
+returns c = ?
 
 pub maps-list-spec : {M : Type 1} → statement M
 maps-list-spec =

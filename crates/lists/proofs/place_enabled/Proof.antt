@@ -1,4 +1,15 @@
+use mathlib.Core.Bool.{true}
+use Prim.Native.Nat.{ℕ, suc, _+_, _*_, _-_, _≤_, _<_}
+use native.Mathlib.Omega.{arith}
+use mathlib.Core.Path.{_≡_, refl, sym, ap, _∙_}
+use mathlib.Core.List.{List, [], _∷_, _++_}
 use borrow.Author.Needs.{needs}
+use borrow.Author.Tests.{not-true, not-false}
+use lib.ListN.{length, getD, take, drop, set, length-set}
+use lib.Seq.{sets}
+use Rattle.lists.specs.Parts.{Parts, resized, placed, entriesFrom, entriesRead, partAdded, below, every, whole}
+use Rattle.lists.specs.PartsLaws.{resized-same, resized-first, resized-other, filled-next, part-filled, entries-none, entries-least, entries-fit}
+use Rattle.lists.specs.Format2.{blankSupported, blankEnabled, supportedAt, enabledAt, supportedView, enabledView, supportedOf, enabledOf, supportedFilled, enabledFilled}
 use Rattle.lists.proofs.place_enabled.Statement.{statement}
 use Rattle.lists.proofs.place_enabled.Tie as tie
 use Rattle.lists.proofs.place_enabled.Reads as reads
@@ -6,14 +17,15 @@ use Rattle.lists.proofs.place_enabled.Lts as lts
 use Rattle.field.proofs.byte_at.Reads as byte-at-reads
 
 abbrev Inv-loop : tie.InvT-loop
-Inv-loop «data» first n q₀ i₀ q i = ?
+Inv-loop «data» first n q₀ i₀ q i = (i ≤ n) × (q ≡ enabledOf (placed first (entriesFrom (enabledAt «data») 8 i) (enabledView q₀)))
 
 abbrev μ-loop : tie.MeasureT-loop
-μ-loop «data» first n q₀ i₀ q i = ?
+μ-loop «data» first n q₀ i₀ q i = n - i
 
 -- src/lib.rt:258:5
 loop-holds : tie.Need-loop-holds Inv-loop μ-loop
-loop-holds c = search needs
+unfolding entriesFrom
+loop-holds c = (search needs, refl)
 
 -- src/lib.rt:259:22
 mul-at : tie.Need-mul-at Inv-loop μ-loop
@@ -49,11 +61,16 @@ loop-less c = search needs
 
 -- src/lib.rt:258:5
 loop-again : tie.Need-loop-again Inv-loop μ-loop
-loop-again c = search needs
+loop-again c =
+    let l = c .before .before .loop in
+    let a = c .before .before .before .before .args in
+    (omega arith, ap enabledOf (filled-next (enabledAt (a .«data» .now)) (enabledView (a .p)) (enabledView (l .q)) (a .first) 8 (l .i) (record { filled = true; index = c .byte-at .result }) (ap enabledView (l .inv .1)) (λ j. record { filled = true; index = c .byte-at .ensures j })))
 
 -- src/lib.rt:252:1
 returns : tie.Need-returns Inv-loop μ-loop
-returns c = search needs
+returns c =
+    let e : c .before .loop .i ≡ c .before .before .before .args .n = omega arith in
+    rw e at (c .before .loop .inv .1)
 
 pub place-enabled-spec : {M : Type 1} → statement M
 place-enabled-spec =
