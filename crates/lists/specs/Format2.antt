@@ -124,7 +124,7 @@ addEnabled d p =
 
 -- "With all three in hand"
 unfoldable pub allWhole : F2List → Bool
-allWhole p = whole supportedFilled (supportedView (p .supported)) && (whole enabledFilled (enabledView (p .enabled)) && p .proprietary .told)
+allWhole p = p .proprietary .told && (whole enabledFilled (enabledView (p .enabled)) && whole supportedFilled (supportedView (p .supported)))
 
 -- "the list is the enabled indexes' PGNs by first match, unmatched ones skipped, then the proprietary ones"
 unfoldable pub wholeList : F2List → List ℕ
