@@ -113,3 +113,6 @@ pub matched-le : (l : List SupportedEntry) (es : List EnabledEntry) → length (
 unfolding matched
 matched-le l [] = omega arith
 matched-le l (e ∷ es) = rw length-append (omega (arith, first-le (e .index) l, matched-le l es))
+
+pub matched-255 : (l : List SupportedEntry) (es : List EnabledEntry) (n : ℕ) → length es ≡ 255 → length (matched l (take n es)) ≤ 255
+matched-255 l es n h = omega (arith, matched-le l (take n es), length-take n es)
