@@ -82,7 +82,7 @@ module _ (d : List ℕ) (p : F2List) where
   unfolding addSupported
   supported-added h e = rw (le-leb 10 (length d) h, eq-eqb (variant d) 0x1100 e)
 
--- A reply 4F
+  -- A reply 4F
 
   pub enabled-short : variant d ≡ 0x1102 → length d < 8 → p ≡ addEnabled d p
   unfolding addEnabled enabledAdded
@@ -170,12 +170,13 @@ list-length p h =
     let s = below (supportedView (p .supported)) in
     let e = below (enabledView (p .enabled)) in
     rw length-append
-    (omega
-    (arith,
-    matched-le s e,
-    length-take (p .enabled .size) (take 255 (p .enabled .entries)),
-    length-take 255 (p .enabled .entries),
-    length-take (p .proprietary .list .n) (p .proprietary .list .pgns)))
+    (omega (
+      arith,
+      matched-le s e,
+      length-take (p .enabled .size) (take 255 (p .enabled .entries)),
+      length-take 255 (p .enabled .entries),
+      length-take (p .proprietary .list .n) (p .proprietary .list .pgns),
+    ))
 
 -- the whole list, from what two writers put: the PGNs of the enabled indexes, then the proprietary ones
 pub listed-put : (p : F2List) (out mid last : List ℕ) (m n : ℕ) → length (p .supported .entries) ≡ 255 → length (p .enabled .entries) ≡ 255
@@ -216,9 +217,9 @@ lent-told (Refused number) o = refl
 
 pub read-tells : (r q : F2Read) (o l : List ℕ) → toldRead r o ≡ toldRead q l → (r ≡ q) × (o ≡ l)
 read-tells r q o l e = (
-    sym (read-told r o) ∙ ap readOf e ∙ read-told q l,
-    sym (lent-told r o) ∙ ap lentOf e ∙ lent-told q l,
-  )
+  sym (read-told r o) ∙ ap readOf e ∙ read-told q l,
+  sym (lent-told r o) ∙ ap lentOf e ∙ lent-told q l,
+)
 
 -- A well-formed state
 
@@ -232,6 +233,7 @@ formed-supported d p h = go (leb 10 (length d) && eqb (variant d) 0x1100)
   where
     new : F2List
     new = record { supported = supportedOf (partAdded blankSupported (supportedAt d) d 7 (supportedView (p .supported))); enabled = p .enabled; proprietary = p .proprietary }
+
     go : (b : Bool) → leb (pick b new p .proprietary .list .n) 512 ≡ true
     go true = h
     go false = h
@@ -245,8 +247,10 @@ maps-formed d p h = go (leb (mapEnd d (mapEnd d 5)) (length d))
   where
     pgns : List ℕ
     pgns = bothPgns (mapAt d 5) (mapAt d (mapEnd d 5))
+
     new : Proprietary
     new = record { told = true; list = listOf (p .list) pgns }
+
     go : (b : Bool) → leb (pick b new p .list .n) 512 ≡ true
     go true = le-leb (length pgns) 512 (maps-512 (mapAt d 5) (mapAt d (mapEnd d 5)))
     go false = h

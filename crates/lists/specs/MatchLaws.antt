@@ -53,6 +53,7 @@ found index l (e ∷ es) d k h g same =
   where
     next : (i : ℕ) → k + suc i ≡ suc k + i
     next i = omega arith
+
     go : (b : Bool) → eqb (e .index) index ≡ b → firstMatch index es ≡ atPlace l d (getD (tableOf es (suc k)) index 0)
         → pick b (e .pgn ∷ []) (firstMatch index es) ≡ atPlace l d (getD (set (tableOf es (suc k)) (e .index) k) index 0)
     go true t ih =
@@ -70,30 +71,29 @@ found index l (e ∷ es) d k h g same =
 module _ (l : List SupportedEntry) (size : ℕ) (es : List EnabledEntry) (n k : ℕ) (d : SupportedEntry) (d′ : EnabledEntry) (place : ℕ)
     (room : size ≤ length l) (few : size ≤ 255) (h : k < n) (g : n ≤ length es) (byte : getD es k d′ .index < 256)
     (e : place ≡ getD (tableOf (take size l) 0) (getD es k d′ .index) 0)
-    where
+  where
+    matched-at : matched (take size l) (drop k (take n es)) ≡ atPlace l d place ++ matched (take size l) (drop (k + 1) (take n es))
+    unfolding matched
+    matched-at =
+        let index = getD es k d′ .index in
+        let t : k < length (take n es) = rw (length-take-le n es g) h in
+        let len : length (take size l) ≡ size = length-take-le size l room in
+        let same : getD (take n es) k d′ ≡ getD es k d′ = getD-take n es k d′ h in
+        let next : (i : ℕ) → i ≡ 0 + i = λ i. omega arith in
+        let m : firstMatch index (take size l) ≡ atPlace l d place =
+        found index l (take size l) d 0 byte (omega (arith, len)) (λ i q. getD-take size l i d (omega (arith, len)) ∙ ap (λ (j : ℕ). getD l j d) (next i))
+        ∙ ap (atPlace l d) (sym e) in
+        ap (matched (take size l)) (drop-cons (take n es) k d′ t)
+        ∙ ap (λ (x : EnabledEntry). firstMatch (x .index) (take size l) ++ matched (take size l) (drop (suc k) (take n es))) same
+        ∙ ap (λ (x : List ℕ). x ++ matched (take size l) (drop (suc k) (take n es))) m
+        ∙ ap (λ (j : ℕ). atPlace l d place ++ matched (take size l) (drop j (take n es))) (sym (add-one k))
 
-  matched-at : matched (take size l) (drop k (take n es)) ≡ atPlace l d place ++ matched (take size l) (drop (k + 1) (take n es))
-  unfolding matched
-  matched-at =
-      let index = getD es k d′ .index in
-      let t : k < length (take n es) = rw (length-take-le n es g) h in
-      let len : length (take size l) ≡ size = length-take-le size l room in
-      let same : getD (take n es) k d′ ≡ getD es k d′ = getD-take n es k d′ h in
-      let next : (i : ℕ) → i ≡ 0 + i = λ i. omega arith in
-      let m : firstMatch index (take size l) ≡ atPlace l d place =
-      found index l (take size l) d 0 byte (omega (arith, len)) (λ i q. getD-take size l i d (omega (arith, len)) ∙ ap (λ (j : ℕ). getD l j d) (next i))
-      ∙ ap (atPlace l d) (sym e) in
-      ap (matched (take size l)) (drop-cons (take n es) k d′ t)
-      ∙ ap (λ (x : EnabledEntry). firstMatch (x .index) (take size l) ++ matched (take size l) (drop (suc k) (take n es))) same
-      ∙ ap (λ (x : List ℕ). x ++ matched (take size l) (drop (suc k) (take n es))) m
-      ∙ ap (λ (j : ℕ). atPlace l d place ++ matched (take size l) (drop j (take n es))) (sym (add-one k))
+    pub matched-hit : place < 255
+        → matched (take size l) (drop k (take n es)) ≡ getD l place d .pgn ∷ matched (take size l) (drop (k + 1) (take n es))
+    matched-hit q = matched-at ∙ rw (lt-ltb place 255 q)
 
-  pub matched-hit : place < 255
-      → matched (take size l) (drop k (take n es)) ≡ getD l place d .pgn ∷ matched (take size l) (drop (k + 1) (take n es))
-  matched-hit q = matched-at ∙ rw (lt-ltb place 255 q)
-
-  pub matched-miss : 255 ≤ place → matched (take size l) (drop k (take n es)) ≡ matched (take size l) (drop (k + 1) (take n es))
-  matched-miss q = matched-at ∙ rw (le-ltb place 255 q)
+    pub matched-miss : 255 ≤ place → matched (take size l) (drop k (take n es)) ≡ matched (take size l) (drop (k + 1) (take n es))
+    matched-miss q = matched-at ∙ rw (le-ltb place 255 q)
 
 pub matched-end : (l : List SupportedEntry) (es : List EnabledEntry) (n : ℕ) → matched l (drop n (take n es)) ≡ []
 unfolding matched

@@ -68,8 +68,8 @@ module _ {E : Type 0} where
       → record { sized = q .sized; size = q .size; places = set (q .places) (first + i) x } ≡ placed first (entriesFrom entryAt at (i + 1)) p
   filled-next entryAt p q first at i x e f =
       let l = ap (λ (r : Parts E). set (r .places) (first + i) x) e
-          ∙ ap (set (sets (p .places) first (entriesFrom entryAt at i)) (first + i)) f
-          ∙ place-next entryAt (p .places) first at i in
+      ∙ ap (set (sets (p .places) first (entriesFrom entryAt at i)) (first + i)) f
+      ∙ place-next entryAt (p .places) first at i in
       λ j. record { sized = e j .sized; size = e j .size; places = l j }
 
   -- a part: resized, then filled with as many entries as are read
@@ -83,7 +83,7 @@ module _ {E : Type 0} where
   -- the same size again
   pub resized-same : (blank : E) (size : ℕ) (p : Parts E) → p .sized ≡ true → p .size ≡ size → p ≡ resized blank size p
   unfolding resized
-  resized-same blank size p s e = 
+  resized-same blank size p s e =
       let t : (p .sized && eqb (p .size) size) ≡ true = rw (s, eq-eqb (p .size) size e) in
       λ i. record { sized = s i; size = e i; places = pick (sym t i) (p .places) (replicate 255 blank) }
 

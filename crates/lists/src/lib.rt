@@ -11,8 +11,25 @@ ghost use Rattle.lists.specs.Maps.{onesOf, bitsFrom, mapPgns};
 ghost use Rattle.lists.specs.Parts.{entriesRead, entriesFrom, placed, resized, partAdded, whole};
 ghost use Rattle.lists.specs.Matches.{matched, tableOf};
 ghost use Rattle.lists.specs.Format2.{
-    blankSupported, blankEnabled, supportedAt, enabledAt, supportedView, enabledView, supportedOf, enabledOf, supportedFilled,
-    enabledFilled, mapEnd, listOf, proprietaryAdded, noParts, addSupported, addEnabled, allWhole, toldRead, listed
+  blankSupported,
+  blankEnabled,
+  supportedAt,
+  enabledAt,
+  supportedView,
+  enabledView,
+  supportedOf,
+  enabledOf,
+  supportedFilled,
+  enabledFilled,
+  mapEnd,
+  listOf,
+  proprietaryAdded,
+  noParts,
+  addSupported,
+  addEnabled,
+  allWhole,
+  toldRead,
+  listed,
 };
 use field::u24_at;
 use field::u32_at;
@@ -470,7 +487,12 @@ impl F2List {
             return F2Read::Partial;
         }
         let at = enabled_pgns(self.supported, self.enabled, out);
-        let n = copy(&self.proprietary.list.pgns, self.proprietary.list.n, out, at);
+        let n = copy(
+            &self.proprietary.list.pgns,
+            self.proprietary.list.n,
+            out,
+            at,
+        );
         F2Read::Whole(n)
     }
 }

@@ -1,61 +1,34 @@
-use Prim.Native.Nat.{ℕ, suc, _+_, _*_, _-_, _≤_, _<_}
+-- `lists::add_supported_part` meets its contract. Assumes nothing.
 use native.Mathlib.Omega.{arith}
-use native.Mathlib.Numerals.{add-one}
-use native.Mathlib.Nat.{zero-add, add-zero}
-use mathlib.Core.Path.{_≡_, refl, sym, ap, ap₂, _∙_}
-use mathlib.Core.Bool.{Bool, true, false}
-use mathlib.Core.Logic.{⊎-elim}
-use mathlib.Core.List.{List, [], _∷_, _++_}
+use mathlib.Core.Path.{ap, _∙_}
 use borrow.Author.Needs.{needs}
-use borrow.Author.Tests.{not-true, not-false}
-use lib.ListN.{length, getD, take, drop, set, replicate, length-set, length-take}
-use lib.Seq.{sets, length-sets, length-take-le, take-suc}
-use Rattle.field.specs.Puts.{Puts, puts-one, puts-length}
-use Rattle.field.specs.Fields.{Bytes}
-use Rattle.lists.specs.Maps.{onesOf, mapPgns}
-use Rattle.lists.specs.Matches.{matched, tableOf}
-use Rattle.lists.specs.MatchLaws.{table-none, table-next, matched-hit, matched-miss, matched-end, matched-le}
-use Rattle.lists.specs.Parts.{Parts, resized, placed, entriesFrom, entriesRead, partAdded, below, every, whole}
-use Rattle.lists.specs.PartsLaws.{resized-same, resized-first, resized-other, filled-next, part-filled, entries-none, entries-least, entries-fit, every-next, every-false, every-end, whole-unsized, whole-sized}
-use Rattle.lists.specs.Format2.{blankSupported, blankEnabled, supportedAt, enabledAt, supportedView, enabledView, supportedOf, enabledOf, supportedFilled, enabledFilled, listOf, bothPgns, mapEnd, allWhole}
-use Rattle.lists.specs.Format2Laws.{supported-short, supported-other, supported-added, enabled-short, enabled-added, enabled-maps, enabled-other, maps-short, maps-added, ones-256, both-listed, listed-16, listed-7, listed-part, listed-put}
+use Rattle.lists.specs.PartsLaws.{part-filled, entries-fit}
+use Rattle.lists.specs.Format2.{blankSupported, supportedAt, supportedView, supportedOf}
 use Rattle.lists.proofs.add_supported_part.Statement.{statement}
 use Rattle.lists.proofs.add_supported_part.Tie as tie
-use Rattle.lists.proofs.add_supported_part.Reads as reads
-use Rattle.lists.proofs.add_supported_part.Lts as lts
-use Rattle.lists.proofs.entries_read.Reads as entries-read-reads
-use Rattle.lists.proofs.place_supported.Reads as place-supported-reads
-use Rattle.lists.proofs.resize_supported.Reads as resize-supported-reads
 
--- src/lib.rt:274:9
 entries-read-requires : tie.Need-entries-read-requires
 entries-read-requires c κs = search needs
 
--- src/lib.rt:275:33
 shared-slice-read-resize-supported : tie.Need-shared-slice-read-resize-supported
 shared-slice-read-resize-supported c = search needs
 
--- src/lib.rt:275:9
 resize-supported-requires : tie.Need-resize-supported-requires
 resize-supported-requires c κs = search needs
 
--- src/lib.rt:276:30
 shared-slice-read-place-supported : tie.Need-shared-slice-read-place-supported
 shared-slice-read-place-supported c = search needs
 
--- src/lib.rt:276:30
 cast-place-supported : tie.Need-cast-place-supported
 cast-place-supported c = omega (arith, c .shared-slice-known3 .given 8)
 
--- src/lib.rt:276:5
 place-supported-requires : tie.Need-place-supported-requires
-place-supported-requires c κs = 
+place-supported-requires c κs =
     let s = c .before .before .before .before .before .args .«data» .now in
     rw (c .before .before .before .entries-read .ensures) (entries-fit s 7 (omega (arith, c .shared-slice-known3 .given 7)) (omega (arith, c .shared-slice-known3 .given 8)))
 
--- src/lib.rt:270:1
 returns : tie.Need-returns
-returns c = 
+returns c =
     let a = c .before .before .before .before .before .before .args in
     let q = c .before .before .resize-supported in
     c .place-supported .ensures

@@ -1,18 +1,17 @@
-use borrow.Author.Needs.{needs}
+-- `lists::byte_pgns` meets its contract. Assumes nothing.
+use Prim.Native.Nat.{ℕ, _+_, _-_, _/_, _≤_}
+use native.Mathlib.Omega.{arith}
+use native.Mathlib.Numerals.{add-one}
 use mathlib.Core.Path.{_≡_, ap, ap₂, _∙_}
 use mathlib.Core.List.{List, _∷_}
 use mathlib.Core.Logic.{⊎-elim}
-use Prim.Native.Nat.{ℕ, suc, _+_, _-_, _/_, _≤_}
-use native.Mathlib.Omega.{arith}
-use native.Mathlib.Numerals.{add-one}
-use lib.ListN.{length, set, length-set}
-use lib.Seq.{sets, length-sets}
+use borrow.Author.Needs.{needs}
+use lib.ListN.{length, length-set}
+use lib.Seq.{sets}
 use Rattle.lists.specs.Maps.{bitsFrom}
 use Rattle.lists.specs.MapLaws.{bits-one, bits-none}
 use Rattle.lists.proofs.byte_pgns.Statement.{statement}
 use Rattle.lists.proofs.byte_pgns.Tie as tie
-use Rattle.lists.proofs.byte_pgns.Reads as reads
-use Rattle.lists.proofs.byte_pgns.Lts as lts
 
 abbrev Inv-loop : tie.InvT-loop
 Inv-loop first byte out₀ at n₀ pgn₀ rest₀ k₀ out n pgn rest k =
@@ -25,37 +24,29 @@ Inv-loop first byte out₀ at n₀ pgn₀ rest₀ k₀ out n pgn rest k =
 abbrev μ-loop : tie.MeasureT-loop
 μ-loop first byte out₀ at n₀ pgn₀ rest₀ k₀ out n pgn rest k = k
 
--- src/lib.rt:34:5
 loop-holds : tie.Need-loop-holds Inv-loop μ-loop
 loop-holds c = search needs
 
--- src/lib.rt:36:13
 mul-out : tie.Need-mul-out Inv-loop μ-loop
 mul-out c = search needs
 
--- src/lib.rt:36:13
 slice-write-out : tie.Need-slice-write-out Inv-loop μ-loop
 slice-write-out c =
     let v = c .before .before .loop in
     omega (arith, ap length (bits-one (v .k) (v .pgn) (v .rest) (omega arith) (c .if1 .taken)))
 
--- src/lib.rt:37:13
 add-n : tie.Need-add-n Inv-loop μ-loop
 add-n c = search needs
 
--- src/lib.rt:40:9
 add-pgn : tie.Need-add-pgn Inv-loop μ-loop
 add-pgn c = search needs
 
--- src/lib.rt:41:9
 sub-k : tie.Need-sub-k Inv-loop μ-loop
 sub-k c = search needs
 
--- src/lib.rt:34:5
 loop-less : tie.Need-loop-less Inv-loop μ-loop
 loop-less c = search needs
 
--- src/lib.rt:34:5
 loop-again : tie.Need-loop-again Inv-loop μ-loop
 loop-again c =
     let v = c .before .before .loop in
@@ -79,11 +70,9 @@ loop-again c =
     ))
     (c .if1 .came)
 
--- src/lib.rt:25:1
 same-length : tie.Need-same-length Inv-loop μ-loop
 same-length c = search needs
 
--- src/lib.rt:25:1
 returns : tie.Need-returns Inv-loop μ-loop
 unfolding bitsFrom
 returns c =

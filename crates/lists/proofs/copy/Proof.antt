@@ -1,28 +1,14 @@
-use Prim.Native.Nat.{ℕ, suc, _+_, _*_, _-_, _≤_, _<_}
+-- `lists::copy` meets its contract. Assumes nothing.
+use Prim.Native.Nat.{ℕ, _+_, _-_, _≤_, _<_}
 use native.Mathlib.Omega.{arith}
 use native.Mathlib.Numerals.{add-one}
-use native.Mathlib.Nat.{zero-add, add-zero}
-use mathlib.Core.Path.{_≡_, refl, sym, ap, ap₂, _∙_}
-use mathlib.Core.Bool.{Bool, true, false}
-use mathlib.Core.Logic.{⊎-elim}
-use mathlib.Core.List.{List, [], _∷_, _++_}
+use mathlib.Core.Path.{_≡_, refl, sym, ap, _∙_}
 use borrow.Author.Needs.{needs}
-use borrow.Author.Tests.{not-true, not-false}
-use lib.ListN.{length, getD, take, drop, set, replicate, length-set, length-take}
-use lib.Seq.{sets, length-sets, length-take-le, take-suc}
+use lib.ListN.{length, getD, take}
+use lib.Seq.{sets, length-take-le, take-suc}
 use Rattle.field.specs.Puts.{Puts, puts-one, puts-length}
-use Rattle.field.specs.Fields.{Bytes}
-use Rattle.lists.specs.Maps.{onesOf, mapPgns}
-use Rattle.lists.specs.Matches.{matched, tableOf}
-use Rattle.lists.specs.MatchLaws.{table-none, table-next, matched-hit, matched-miss, matched-end, matched-le}
-use Rattle.lists.specs.Parts.{Parts, resized, placed, entriesFrom, entriesRead, partAdded, below, every, whole}
-use Rattle.lists.specs.PartsLaws.{resized-same, resized-first, resized-other, filled-next, part-filled, entries-none, entries-least, entries-fit, every-next, every-false, every-end, whole-unsized, whole-sized}
-use Rattle.lists.specs.Format2.{blankSupported, blankEnabled, supportedAt, enabledAt, supportedView, enabledView, supportedOf, enabledOf, supportedFilled, enabledFilled, listOf, bothPgns, mapEnd, allWhole}
-use Rattle.lists.specs.Format2Laws.{supported-short, supported-other, supported-added, enabled-short, enabled-added, enabled-maps, enabled-other, maps-short, maps-added, ones-256, both-listed, listed-16, listed-7, listed-part, listed-put}
 use Rattle.lists.proofs.copy.Statement.{statement}
 use Rattle.lists.proofs.copy.Tie as tie
-use Rattle.lists.proofs.copy.Reads as reads
-use Rattle.lists.proofs.copy.Lts as lts
 
 abbrev Inv-loop : tie.InvT-loop
 Inv-loop from n out₀ at i₀ out i = (i ≤ n) × Puts out₀ at (take i from) out (at + i)
@@ -30,43 +16,34 @@ Inv-loop from n out₀ at i₀ out i = (i ≤ n) × Puts out₀ at (take i from)
 abbrev μ-loop : tie.MeasureT-loop
 μ-loop from n out₀ at i₀ out i = n - i
 
--- src/lib.rt:384:5
 loop-holds : tie.Need-loop-holds Inv-loop μ-loop
 loop-holds c = (search needs, record { stored = refl; after = refl })
 
--- src/lib.rt:385:23
 mul-out : tie.Need-mul-out Inv-loop μ-loop
 mul-out c = search needs
 
--- src/lib.rt:385:23
 shared-slice-read-out : tie.Need-shared-slice-read-out Inv-loop μ-loop
 shared-slice-read-out c = search needs
 
--- src/lib.rt:385:13
 add-out : tie.Need-add-out Inv-loop μ-loop
 add-out c = search needs
 
--- src/lib.rt:385:9
 mul-out-2 : tie.Need-mul-out-2 Inv-loop μ-loop
 mul-out-2 c = search needs
 
--- src/lib.rt:385:9
 slice-write-out : tie.Need-slice-write-out Inv-loop μ-loop
-slice-write-out c = 
+slice-write-out c =
     let l = c .before .before .loop in
     omega (arith, puts-length (l .inv .1))
 
--- src/lib.rt:386:9
 add-i : tie.Need-add-i Inv-loop μ-loop
 add-i c = search needs
 
--- src/lib.rt:384:5
 loop-less : tie.Need-loop-less Inv-loop μ-loop
 loop-less c = search needs
 
--- src/lib.rt:384:5
 loop-again : tie.Need-loop-again Inv-loop μ-loop
-loop-again c = 
+loop-again c =
     let a = c .before .before .before .args in
     let l = c .before .before .loop in
     let h : l .i < length (a .from .now) = omega arith in
@@ -74,17 +51,14 @@ loop-again c =
     let p = puts-one (getD (a .from .now) (l .i) 0) (l .inv .1) in
     (omega arith, record { stored = p .stored ∙ ap (sets (a .out .now) (a .at)) (sym (take-suc (a .from .now) (l .i) 0 h) ∙ ap (λ (k : ℕ). take k (a .from .now)) (sym (add-one (l .i)))); after = rw (length-take-le (l .i + 1) (a .from .now) (omega arith)) refl })
 
--- src/lib.rt:388:5
 add-result : tie.Need-add-result Inv-loop μ-loop
 add-result c = search needs
 
--- src/lib.rt:378:1
 same-length : tie.Need-same-length Inv-loop μ-loop
 same-length c = puts-length (c .before .loop .inv .1)
 
--- src/lib.rt:378:1
 returns : tie.Need-returns Inv-loop μ-loop
-returns c = 
+returns c =
     let e : c .before .loop .i ≡ c .before .before .args .n = omega arith in
     rw e at (c .before .loop .inv .1)
 

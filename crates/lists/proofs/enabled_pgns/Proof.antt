@@ -1,29 +1,19 @@
-use Prim.Native.Nat.{ℕ, suc, _+_, _*_, _-_, _≤_, _<_}
+-- `lists::enabled_pgns` meets its contract. Assumes nothing.
+use Prim.Native.Nat.{ℕ, _+_, _-_, _≤_, _<_}
 use native.Mathlib.Omega.{arith}
 use native.Mathlib.Numerals.{add-one}
-use native.Mathlib.Nat.{zero-add, add-zero}
-use mathlib.Core.Path.{_≡_, refl, sym, ap, ap₂, _∙_}
-use mathlib.Core.Bool.{Bool, true, false}
+use mathlib.Core.Path.{_≡_, sym, ap, ap₂, _∙_}
 use mathlib.Core.Logic.{⊎-elim}
-use mathlib.Core.List.{List, [], _∷_, _++_}
+use mathlib.Core.List.{List, []}
 use borrow.Author.Needs.{needs}
-use borrow.Author.Tests.{not-true, not-false}
-use lib.ListN.{length, getD, take, drop, set, replicate, length-set, length-take, length-map}
-use lib.Seq.{sets, length-sets, length-take-le, take-suc}
-use Rattle.field.specs.Puts.{Puts, puts-one, puts-length}
-use Rattle.field.specs.Fields.{Bytes}
-use Rattle.lists.specs.Maps.{onesOf, mapPgns}
+use lib.ListN.{length, getD, take, drop, length-set, length-map}
+use lib.Seq.{sets}
 use Rattle.lists.specs.Matches.{matched, tableOf}
-use Rattle.lists.specs.MatchLaws.{table-none, table-next, matched-hit, matched-miss, matched-end, matched-le}
-use Rattle.lists.specs.Parts.{Parts, resized, placed, entriesFrom, entriesRead, partAdded, below, every, whole}
-use Rattle.lists.specs.PartsLaws.{resized-same, resized-first, resized-other, filled-next, part-filled, entries-none, entries-least, entries-fit, every-next, every-false, every-end, whole-unsized, whole-sized}
-use Rattle.lists.specs.Format2.{blankSupported, blankEnabled, supportedAt, enabledAt, supportedView, enabledView, supportedOf, enabledOf, supportedFilled, enabledFilled, listOf, bothPgns, mapEnd, allWhole}
-use Rattle.lists.specs.Format2Laws.{supported-short, supported-other, supported-added, enabled-short, enabled-added, enabled-maps, enabled-other, maps-short, maps-added, ones-256, both-listed, listed-16, listed-7, listed-part, listed-put}
+use Rattle.lists.specs.MatchLaws.{matched-hit, matched-miss, matched-end}
+use Rattle.lists.specs.Parts.{below}
+use Rattle.lists.specs.Format2.{blankSupported, blankEnabled}
 use Rattle.lists.proofs.enabled_pgns.Statement.{statement}
 use Rattle.lists.proofs.enabled_pgns.Tie as tie
-use Rattle.lists.proofs.enabled_pgns.Reads as reads
-use Rattle.lists.proofs.enabled_pgns.Lts as lts
-use Rattle.lists.proofs.first_places.Reads as first-places-reads
 
 abbrev Inv-loop : tie.InvT-loop
 Inv-loop out₀ s e table size n₀ k₀ out n k =
@@ -43,69 +33,53 @@ places-255 c = sym (length-map (c .args .t1 .entries) _) ∙ c .good .0 .1 .1 .1
 enabled-255 : (c : tie.Start Inv-loop μ-loop) → length (c .args .t2 .entries) ≡ 255
 enabled-255 c = sym (length-map (c .args .t2 .entries) _) ∙ c .good .1 .0 .1 .1 .1 .1 .0 .1 .0 .1
 
--- src/lib.rt:354:17
 first-places-requires : tie.Need-first-places-requires Inv-loop μ-loop
 first-places-requires c κs = search needs
 
--- src/lib.rt:355:16
 cast-size : tie.Need-cast-size Inv-loop μ-loop
 cast-size c = search needs
 
--- src/lib.rt:358:5
 loop-holds : tie.Need-loop-holds Inv-loop μ-loop
 loop-holds c = search needs
 
--- src/lib.rt:359:21
 mul-entry : tie.Need-mul-entry Inv-loop μ-loop
 mul-entry c = search needs
 
--- src/lib.rt:359:21
 element-copy-out-entry : tie.Need-element-copy-out-entry Inv-loop μ-loop
 element-copy-out-entry c = search needs
 
--- src/lib.rt:360:27
 cast-place : tie.Need-cast-place Inv-loop μ-loop
 cast-place c = search needs
 
--- src/lib.rt:360:21
 array-read-place : tie.Need-array-read-place Inv-loop μ-loop
 array-read-place c = search needs
 
--- src/lib.rt:360:21
 cast-place-2 : tie.Need-cast-place-2 Inv-loop μ-loop
 cast-place-2 c = search needs
 
--- src/lib.rt:362:22
 mul-out : tie.Need-mul-out Inv-loop μ-loop
 mul-out c = search needs
 
--- src/lib.rt:362:22
 element-copy-out-out : tie.Need-element-copy-out-out Inv-loop μ-loop
 element-copy-out-out c = search needs
 
--- src/lib.rt:362:13
 mul-out-2 : tie.Need-mul-out-2 Inv-loop μ-loop
 mul-out-2 c = search needs
 
--- src/lib.rt:362:13
 slice-write-out : tie.Need-slice-write-out Inv-loop μ-loop
 slice-write-out c = search needs
 
--- src/lib.rt:363:13
 add-n : tie.Need-add-n Inv-loop μ-loop
 add-n c = search needs
 
--- src/lib.rt:365:9
 add-k : tie.Need-add-k Inv-loop μ-loop
 add-k c = search needs
 
--- src/lib.rt:358:5
 loop-less : tie.Need-loop-less Inv-loop μ-loop
 loop-less c = search needs
 
--- src/lib.rt:358:5
 loop-again : tie.Need-loop-again Inv-loop μ-loop
-loop-again c = 
+loop-again c =
     let st = c .before .before .before .before .before .before .before in
     let s = st .args .t1 in
     let e = st .args .t2 in
@@ -139,13 +113,11 @@ loop-again c =
     ))
     (c .if1 .came)
 
--- src/lib.rt:350:1
 same-length : tie.Need-same-length Inv-loop μ-loop
 same-length c = search needs
 
--- src/lib.rt:350:1
 returns : tie.Need-returns Inv-loop μ-loop
-returns c = 
+returns c =
     let a = c .before .before .before .before .args in
     let v = c .before .loop in
     let z : v .k ≡ a .t2 .size = omega arith in

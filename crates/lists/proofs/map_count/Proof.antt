@@ -1,9 +1,9 @@
-use borrow.Author.Needs.{needs}
-use mathlib.Core.Path.{_≡_, ap, sym, _∙_}
-use Prim.Native.Nat.{ℕ, suc, _+_, _*_, _-_, _≤_}
+-- `lists::map_count` meets its contract. Assumes nothing.
+use Prim.Native.Nat.{ℕ, _*_, _-_, _≤_}
 use native.Mathlib.Omega.{arith}
 use native.Mathlib.Numerals.{add-one}
-use mathlib.Core.List.{List}
+use mathlib.Core.Path.{_≡_, ap, sym, _∙_}
+use borrow.Author.Needs.{needs}
 use lib.ListN.{length, take, getD}
 use lib.Seq.{take-all}
 use lib.Count.{ones, ones-le}
@@ -11,8 +11,6 @@ use Rattle.lists.specs.Maps.{onesOf}
 use Rattle.lists.specs.MapLaws.{ones-next}
 use Rattle.lists.proofs.map_count.Statement.{statement}
 use Rattle.lists.proofs.map_count.Tie as tie
-use Rattle.lists.proofs.map_count.Reads as reads
-use Rattle.lists.proofs.map_count.Lts as lts
 
 abbrev Inv-loop : tie.InvT-loop
 Inv-loop map n₀ b₀ n b = (b ≤ length map) × (b ≤ 32) × (n ≡ onesOf (take b map)) × (n ≤ 8 * b)
@@ -20,43 +18,35 @@ Inv-loop map n₀ b₀ n b = (b ≤ length map) × (b ≤ 32) × (n ≡ onesOf (
 abbrev μ-loop : tie.MeasureT-loop
 μ-loop map n₀ b₀ n b = 32 - b
 
--- src/lib.rt:14:5
 loop-holds : tie.Need-loop-holds Inv-loop μ-loop
 unfolding onesOf
 loop-holds c = search needs
 
--- src/lib.rt:16:13
 returns : tie.Need-returns Inv-loop μ-loop
 returns c =
     let s = c .before .before .before .args .map .now in
     let b = c .before .before .loop .b in
     c .before .before .loop .inv .2 ∙ ap onesOf (take-all b s (omega arith) ∙ sym (take-all 32 s (omega arith)))
 
--- src/lib.rt:18:29
 shared-slice-read-n : tie.Need-shared-slice-read-n Inv-loop μ-loop
 shared-slice-read-n c = search needs
 
--- src/lib.rt:18:14
 cast-n : tie.Need-cast-n Inv-loop μ-loop
 cast-n c =
     let b = c .before .before .before .loop .b in
     omega (arith, ones-le 8 (getD (c .before .before .before .before .args .map .now) b 0) (c .shared-slice-known .given b .fits))
 
--- src/lib.rt:18:9
 add-n : tie.Need-add-n Inv-loop μ-loop
 add-n c =
     let b = c .before .before .before .loop .b in
     omega (arith, ones-le 8 (getD (c .before .before .before .before .args .map .now) b 0) (c .shared-slice-known .given b .fits))
 
--- src/lib.rt:19:9
 add-b : tie.Need-add-b Inv-loop μ-loop
 add-b c = search needs
 
--- src/lib.rt:14:5
 loop-less : tie.Need-loop-less Inv-loop μ-loop
 loop-less c = search needs
 
--- src/lib.rt:14:5
 loop-again : tie.Need-loop-again Inv-loop μ-loop
 loop-again c =
     let s = c .before .before .before .before .args .map .now in
@@ -65,7 +55,6 @@ loop-again c =
     let few : ones (getD s b 0) ≤ 8 = ones-le 8 (getD s b 0) (c .shared-slice-known .given b .fits) in
     (omega arith, omega arith, rw (add-one b) (omega (arith, ones-next s b (omega arith))), omega arith)
 
--- src/lib.rt:9:1
 returns-2 : tie.Need-returns-2 Inv-loop μ-loop
 returns-2 c =
     let s = c .before .before .args .map .now in

@@ -1,19 +1,16 @@
-use borrow.Author.Needs.{needs}
-use mathlib.Core.Path.{_≡_, ap, ap₂, sym, _∙_}
-use mathlib.Core.List.{List, [], _∷_, _++_}
+-- `lists::map_pgns` meets its contract. Assumes nothing.
 use Prim.Native.Nat.{ℕ, _+_, _*_, _-_, _≤_, _<_}
 use native.Mathlib.Omega.{arith}
-use lib.ListN.{length, take, drop, getD}
+use mathlib.Core.Path.{_≡_, ap, ap₂, sym, _∙_}
+use mathlib.Core.List.{List, []}
+use borrow.Author.Needs.{needs}
+use lib.ListN.{length, take, getD}
 use lib.Seq.{sets}
-use lib.Count.{ones}
 use Rattle.field.specs.WrittenLaws.{sets-append}
 use Rattle.lists.specs.Maps.{bitsFrom, onesOf, mapPgns}
 use Rattle.lists.specs.MapLaws.{bits-length, leftOf, left-none, ones-left, pgns-left}
 use Rattle.lists.proofs.map_pgns.Statement.{statement}
 use Rattle.lists.proofs.map_pgns.Tie as tie
-use Rattle.lists.proofs.map_pgns.Reads as reads
-use Rattle.lists.proofs.map_pgns.Lts as lts
-use Rattle.lists.proofs.byte_pgns.Reads as byte-pgns-reads
 
 abbrev Inv-loop : tie.InvT-loop
 Inv-loop base map out₀ at n₀ first₀ b₀ out n first b =
@@ -26,15 +23,12 @@ Inv-loop base map out₀ at n₀ first₀ b₀ out n first b =
 abbrev μ-loop : tie.MeasureT-loop
 μ-loop base map out₀ at n₀ first₀ b₀ out n first b = 32 - b
 
--- src/lib.rt:55:5
 loop-holds : tie.Need-loop-holds Inv-loop μ-loop
 loop-holds c = search needs
 
--- src/lib.rt:57:13
 same-length : tie.Need-same-length Inv-loop μ-loop
 same-length c = search needs
 
--- src/lib.rt:57:13
 returns : tie.Need-returns Inv-loop μ-loop
 unfolding onesOf mapPgns
 returns c =
@@ -43,11 +37,9 @@ returns c =
     let z : leftOf s (v .b) ≡ [] = left-none s (v .b) (c .if1 .taken) in
     rw z at (v .inv .4)
 
--- src/lib.rt:59:30
 shared-slice-read-byte-pgns : tie.Need-shared-slice-read-byte-pgns Inv-loop μ-loop
 shared-slice-read-byte-pgns c = search needs
 
--- src/lib.rt:59:9
 byte-pgns-requires : tie.Need-byte-pgns-requires Inv-loop μ-loop
 byte-pgns-requires c κs =
     let v = c .before .before .before .before .loop in
@@ -55,19 +47,15 @@ byte-pgns-requires c κs =
     let k = c .before .shared-slice-known2 .given (v .b) in
     (omega arith, omega (arith, ones-left s (v .b) (omega arith) (omega arith), bits-length 8 (v .first) (getD s (v .b) 0) (k .fits)))
 
--- src/lib.rt:60:9
 add-first : tie.Need-add-first Inv-loop μ-loop
 add-first c = search needs
 
--- src/lib.rt:61:9
 add-b : tie.Need-add-b Inv-loop μ-loop
 add-b c = search needs
 
--- src/lib.rt:55:5
 loop-less : tie.Need-loop-less Inv-loop μ-loop
 loop-less c = search needs
 
--- src/lib.rt:55:5
 loop-again : tie.Need-loop-again Inv-loop μ-loop
 loop-again c =
     let v = c .before .before .before .before .before .before .before .loop in
@@ -86,11 +74,9 @@ loop-again c =
           ∙ ap (sets (v .out) (v .n)) (sym (pgns-left (v .first) s (v .b) below here)) ∙ v .inv .4,
     )
 
--- src/lib.rt:47:1
 same-length-2 : tie.Need-same-length-2 Inv-loop μ-loop
 same-length-2 c = search needs
 
--- src/lib.rt:47:1
 returns-2 : tie.Need-returns-2 Inv-loop μ-loop
 unfolding onesOf mapPgns
 returns-2 c =
