@@ -1,0 +1,218 @@
+// Lists of PGNs in lent arrays, each with a count (document 01, module 6): looked up, appended, moved down, noted once, owed.
+// Stands below the session. No function requires anything: a count past an array's end counts the array, and what does not fit is dropped.
+ghost use mathlib.Core.Path.{_≡_};
+ghost use mathlib.Core.Bool.{not, _||_};
+ghost use mathlib.Core.List.{_++_};
+ghost use Prim.Native.Nat.{_+_, _≤_, _<_};
+ghost use lib.ListN.{length, take, drop};
+ghost use lib.Seq.{sets};
+ghost use lib.Dec.{leb};
+ghost use Rattle.tx_list.specs.Views as view;
+ghost use Rattle.pgns.specs.Lists.{told, noted, owedOf, owedIn, skips};
+
+fn least(a: usize, b: usize) -> usize
+    ensures { λ r. ⌜ r ≡ view.least a b ⌝ }
+{
+    if a <= b { a } else { b }
+}
+
+// The first n, or all where there are fewer.
+fn first(list: &[u32], n: usize) -> &[u32]
+    ensures { λ r. ⌜ now r ≡ take n (now (list .entry)) ⌝ }
+{
+    let end = least(n, list.len());
+    &list[..end]
+}
+
+fn contains(list: &[u32], pgn: u32) -> bool
+    ensures { λ r. ⌜ r ≡ view.has pgn (now (list .entry)) ⌝ }
+{
+    let mut i = 0;
+    while i < list.len() {
+        if list[i] == pgn {
+            return true;
+        }
+        i += 1;
+    }
+    false
+}
+
+// Whether the first n of list have the PGN.
+pub fn has(list: &[u32], n: usize, pgn: u32) -> bool
+    ensures { λ r. ⌜ r ≡ view.has pgn (take n (now (list .entry))) ⌝ }
+{
+    contains(first(list, n), pgn)
+}
+
+// All of src, at the places from `at` on.
+fn copy(dst: &mut [u32], at: usize, src: &[u32])
+    ensures { λ _. ⌜ now (dst .exit) ≡ sets (now (dst .entry)) at (now (src .entry)) ⌝ }
+{
+    let mut k = at;
+    let mut i = 0;
+    while i < src.len() {
+        if dst.len() <= k {
+            return;
+        }
+        dst[k] = src[i];
+        k += 1;
+        i += 1;
+    }
+}
+
+// The first n of src, at the places from `at` on; what does not fit is dropped.
+pub fn append(dst: &mut [u32], at: usize, src: &[u32], n: usize)
+    ensures { λ _. ⌜ now (dst .exit) ≡ sets (now (dst .entry)) at (take n (now (src .entry))) ⌝ }
+{
+    copy(dst, at, first(src, n))
+}
+
+// The first n without the very first, one place down.
+pub fn shift(list: &mut [u32], n: usize)
+    ensures { λ _. ⌜ now (list .exit) ≡ sets (now (list .entry)) 0 (drop 1 (take n (now (list .entry)))) ⌝ }
+{
+    let end = least(n, list.len());
+    let mut i = 0;
+    while i + 1 < end {
+        list[i] = list[i + 1];
+        i += 1;
+    }
+}
+
+// The PGN noted after the first n of known, unless they have it; answers the new count.
+fn note(known: &mut [u32], n: usize, pgn: u32) -> usize
+    requires { ⌜ n < length (now known) ⌝ }
+    ensures { λ r. ⌜ r ≡ n + length (view.only (not (view.has pgn (take n (now (known .entry))))) pgn) ⌝ }
+    ensures { λ r. ⌜ now (known .exit) ≡ sets (now (known .entry)) n (view.only (not (view.has pgn (take n (now (known .entry))))) pgn) ⌝ }
+{
+    if contains(&known[..n], pgn) {
+        return n;
+    }
+    known[n] = pgn;
+    n + 1
+}
+
+// All of src noted among the first n of known.
+fn note_each(known: &mut [u32], n: usize, src: &[u32]) -> usize
+    requires { ⌜ n + length (now src) ≤ length (now known) ⌝ }
+    ensures { λ r. ⌜ r ≡ length (view.notes (take n (now (known .entry))) (now (src .entry))) ⌝ }
+    ensures { λ r. ⌜ now (known .exit) ≡ sets (now (known .entry)) 0 (view.notes (take n (now (known .entry))) (now (src .entry))) ⌝ }
+{
+    let mut k = n;
+    let mut i = 0;
+    while i < src.len() {
+        k = note(known, k, src[i]);
+        i += 1;
+    }
+    k
+}
+
+fn fits2(a: usize, b: usize, cap: usize) -> bool
+    ensures { λ r. ⌜ r ≡ leb (a + b) cap ⌝ }
+{
+    if cap < a {
+        return false;
+    }
+    b <= cap - a
+}
+
+// The first m of src noted among the first n of known: each that is absent is added once; answers the new count.
+// Without room for n + m nothing is done and n is answered.
+pub fn note_all(known: &mut [u32], n: usize, src: &[u32], m: usize) -> usize
+    ensures { λ r. ⌜ told r (now (known .exit)) ≡ noted (now (known .entry)) n (now (src .entry)) m ⌝ }
+{
+    if fits2(n, m, known.len()) {
+        note_each(known, n, first(src, m))
+    } else {
+        n
+    }
+}
+
+// The place k on, at most the end.
+fn onward(at: usize, k: usize, end: usize) -> usize
+    ensures { λ r. ⌜ r ≡ view.least (at + k) end ⌝ }
+{
+    if fits2(at, k, end) { at + k } else { end }
+}
+
+// n PGNs of four bytes of m, from byte `from` on, at the places from `at` on; bytes past the end count as 0.
+pub fn add_pgns(dst: &mut [u32], at: usize, m: &[u8], from: usize, n: usize)
+    ensures { λ _. ⌜ now (dst .exit) ≡ sets (now (dst .entry)) at (view.pgnsAt (now (m .entry)) from n) ⌝ }
+{
+    let mut k = at;
+    let mut j = from;
+    let mut left = n;
+    while left > 0 {
+        if dst.len() <= k {
+            return;
+        }
+        dst[k] = field::u32_at(m, j);
+        j = onward(j, 4, m.len());
+        k += 1;
+        left -= 1;
+    }
+}
+
+// Whether nothing is owed for the PGN: it is on the list read, or present, or refused.
+fn skipped<'a>(pgn: u32, list: &'a [u32], present: &'a [u32], refused: &'a [u32]) -> bool
+    ensures { λ r. ⌜ r ≡ skips (now (list .entry)) (now (present .entry)) (now (refused .entry)) pgn ⌝ }
+{
+    if contains(list, pgn) {
+        return true;
+    }
+    if contains(present, pgn) {
+        return true;
+    }
+    contains(refused, pgn)
+}
+
+fn owed_each<'a>(
+    dst: &mut [u32],
+    wanted: &'a [u32],
+    list: &'a [u32],
+    present: &'a [u32],
+    refused: &'a [u32],
+) -> usize
+    requires { ⌜ length (now wanted) ≤ length (now dst) ⌝ }
+    ensures { λ r. ⌜ r ≡ length (owedOf (now (wanted .entry)) (now (list .entry)) (now (present .entry)) (now (refused .entry))) ⌝ }
+    ensures { λ r. ⌜ now (dst .exit) ≡ sets (now (dst .entry)) 0 (owedOf (now (wanted .entry)) (now (list .entry)) (now (present .entry)) (now (refused .entry))) ⌝ }
+{
+    let mut k = 0;
+    let mut i = 0;
+    while i < wanted.len() {
+        let pgn = wanted[i];
+        if !skipped(pgn, list, present, refused) {
+            dst[k] = pgn;
+            k += 1;
+        }
+        i += 1;
+    }
+    k
+}
+
+// The PGNs owed, from the start of dst: those of the first w of wanted that are absent from the first l of list, p of present and
+// r of refused; answers how many. Where w passes dst's length nothing is done and 0 is answered.
+pub fn owed_into<'a>(
+    dst: &mut [u32],
+    wanted: &'a [u32],
+    w: usize,
+    list: &'a [u32],
+    l: usize,
+    present: &'a [u32],
+    p: usize,
+    refused: &'a [u32],
+    r: usize,
+) -> usize
+    ensures { λ n. ⌜ told n (now (dst .exit)) ≡ owedIn (now (dst .entry)) w (owedOf (take w (now (wanted .entry))) (take l (now (list .entry))) (take p (now (present .entry))) (take r (now (refused .entry)))) ⌝ }
+{
+    if dst.len() < w {
+        return 0;
+    }
+    owed_each(
+        dst,
+        first(wanted, w),
+        first(list, l),
+        first(present, p),
+        first(refused, r),
+    )
+}
