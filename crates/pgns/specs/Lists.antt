@@ -1,14 +1,13 @@
 -- Lists of PGNs in arrays with counts (document 01, module 6): what is noted, and what is owed. Assumes nothing.
-use mathlib.Core.Bool.{Bool, true, false, not, _&&_, _||_}
-use mathlib.Core.List.{List, [], _∷_, _++_}
+use mathlib.Core.Bool.{Bool, _||_}
+use mathlib.Core.List.{List, []}
 use Prim.Native.Nat.{ℕ, _+_}
 use lib.Dec.{leb}
 use lib.ListN.{length, take}
-use lib.Seq.{sets}
 use Rattle.field.specs.Pick.{pick}
 use Rattle.tx_list.specs.Views.{has, notes}
-use Rattle.tx_list.specs.Session.{Record, owed}
-use Rattle.tx_list.specs.Memory.{Buf, live, fill}
+use Rattle.tx_list.specs.Session.{owed}
+use Rattle.tx_list.specs.Memory.{Buf, fill}
 
 -- a count and an array
 abbrev pub told : ℕ → List ℕ → Buf ℕ

@@ -1,17 +1,16 @@
 -- Laws of lists of PGNs: what is noted comes after what was known, what is owed does not depend on the saved list, and how long they are.
 -- Assumes nothing.
-use Prim.Native.Nat.{ℕ, zero, suc, _+_, _-_, _≤_, _<_}
-use native.Mathlib.Nat.{add-zero, zero-add}
+use Prim.Native.Nat.{ℕ, _+_, _-_, _≤_}
 use native.Mathlib.Omega.{arith}
-use mathlib.Core.Path.{_≡_, refl, ap, ap₂, sym, _∙_}
+use mathlib.Core.Path.{_≡_, refl, ap, sym, _∙_}
 use mathlib.Core.Bool.{Bool, true, false, not, _&&_}
 use mathlib.Core.List.{List, [], _∷_, _++_, map, append-nil, append-assoc}
 use borrow.Author.Tests.{le-leb, lt-leb, leb-true, leb-false}
 use lib.Dec.{leb}
-use lib.ListN.{length, take, drop, length-append}
+use lib.ListN.{length, drop, length-append}
 use lib.Seq.{sets, length-sets, drop-append-add, drop-drop}
 use Rattle.field.specs.Pick.{pick}
-use Rattle.field.specs.WrittenLaws.{sets-written, written-length}
+use Rattle.field.specs.WrittenLaws.{sets-written}
 use Rattle.tx_list.specs.Views.{has, only, note, notes, least}
 use Rattle.tx_list.specs.Session.{Record, owed}
 

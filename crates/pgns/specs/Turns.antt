@@ -1,21 +1,20 @@
 -- One turn of each loop over a list of PGNs: what is left to do before it, and after it. Assumes nothing.
 use Prim.Native.Nat.{ℕ, zero, suc, _+_, _-_, _≤_, _<_}
-use native.Mathlib.Nat.{add-zero, zero-add}
+use native.Mathlib.Nat.{add-zero}
 use native.Mathlib.Numerals.{add-one}
 use native.Mathlib.Omega.{arith}
 use mathlib.Core.Path.{_≡_, refl, ap, ap₂, sym, _∙_}
 use mathlib.Core.Bool.{Bool, true, false, not, _&&_, _||_}
-use mathlib.Core.List.{List, [], _∷_, _++_, map, append-nil, append-assoc}
+use mathlib.Core.List.{List, [], _∷_, _++_, map}
 use borrow.Author.Tests.{le-leb, lt-leb, leb-true, leb-false, eq-eqb, ne-eqb}
 use lib.Dec.{leb, eqb}
-use lib.ListN.{length, getD, take, drop, set, drop-of-length-le, length-append, length-set, take-append-drop}
+use lib.ListN.{length, getD, take, drop, set, drop-of-length-le, length-append, take-append-drop}
 use lib.Seq.{sets, sets-eq, length-sets, take-all, take-at, drop-at, length-take-le, drop-cons, drop-drop, set-out, getD-take, take-set-lt, drop-set-lt}
 use Rattle.field.specs.Fields.{field}
 use Rattle.field.specs.FieldLaws.{field-past}
-use Rattle.field.specs.Written.{written}
 use Rattle.field.specs.WrittenLaws.{sets-written}
 use Rattle.tx_list.specs.Views.{has, only, note, notes, least, pgnsAt}
-use Rattle.tx_list.specs.Session.{Record, owed}
+use Rattle.tx_list.specs.Session.{owed}
 use Rattle.pgns.specs.Lists.{told, noted, owedOf, owedIn, skips}
 use Rattle.pgns.specs.PgnsLaws.{only-true, only-false, only-length, least-low, least-high}
 

@@ -1,8 +1,7 @@
 // Lists of PGNs in lent arrays, each with a count (document 01, module 6): looked up, appended, moved down, noted once, owed.
 // Stands below the session. No function requires anything: a count past an array's end counts the array, and what does not fit is dropped.
 ghost use mathlib.Core.Path.{_≡_};
-ghost use mathlib.Core.Bool.{not, _||_};
-ghost use mathlib.Core.List.{_++_};
+ghost use mathlib.Core.Bool.{not};
 ghost use Prim.Native.Nat.{_+_, _≤_, _<_};
 ghost use lib.ListN.{length, take, drop};
 ghost use lib.Seq.{sets};
