@@ -6,11 +6,12 @@ use native.Mathlib.Numerals.{add-one}
 use native.Mathlib.Omega.{arith}
 use mathlib.Core.Path.{_≡_, refl, sym, ap, _∙_}
 use mathlib.Core.Bool.{Bool, true, false, _&&_}
+use mathlib.Core.Logic.{_⊎_, inl, inr}
 use mathlib.Core.List.{List, [], _∷_, _++_}
 use borrow.Author.Tests.{eq-eqb, ne-eqb}
 use lib.Dec.{eqb}
-use lib.ListN.{length, getD, take, drop, set, replicate, length-take, drop-of-length-le}
-use lib.Seq.{sets, drop-cons, take-all, getD-take, length-take-le}
+use lib.ListN.{length, getD, take, drop, set, replicate, length-take, length-set, drop-of-length-le}
+use lib.Seq.{sets, drop-cons, take-all, getD-take, getD-set-same, getD-set-other, length-take-le}
 use Rattle.field.specs.Pick.{pick}
 use Rattle.lists.specs.Parts.{Parts, resized, placed, entriesFrom, entriesRead, partAdded, below, every, whole}
 
@@ -131,3 +132,48 @@ module _ {E : Type 0} where
       → every f (take (p .size) (p .places)) ≡ b → b ≡ whole f p
   unfolding whole
   whole-sized f p b s h e = rw (s, below-places p h, e)
+
+  -- What stands where, after a part: the entry that was read for a place, else what stood there under that size
+
+  sets-before : (xs l : List E) (i k : ℕ) (x : E) → k < i → getD (sets l i xs) k x ≡ getD l k x
+  sets-before [] l i k x h = refl
+  sets-before (y ∷ xs) l i k x h = sets-before xs (set l i y) (suc i) k x (omega arith) ∙ getD-set-other l i k y x (λ e. omega arith)
+
+  sets-in : (xs l : List E) (i j : ℕ) (x : E) → j < length xs → i + j < length l → getD (sets l i xs) (i + j) x ≡ getD xs j x
+  sets-in [] l i j x h g = absurd (omega arith)
+  sets-in (y ∷ xs) l i zero x h g =
+      ap (λ (k : ℕ). getD (sets (set l i y) (suc i) xs) k x) (add-zero i)
+      ∙ sets-before xs (set l i y) (suc i) i x (omega arith)
+      ∙ getD-set-same l i y x (omega arith)
+  sets-in (y ∷ xs) l i (suc j) x h g =
+      let e : i + suc j ≡ suc i + j = omega arith in
+      ap (λ (k : ℕ). getD (sets (set l i y) (suc i) xs) k x) e ∙ sets-in xs (set l i y) (suc i) j x (omega arith) (simp length-set (omega arith))
+
+  sets-after : (xs l : List E) (i k : ℕ) (x : E) → i + length xs ≤ k → getD (sets l i xs) k x ≡ getD l k x
+  sets-after [] l i k x h = refl
+  sets-after (y ∷ xs) l i k x h = sets-after xs (set l i y) (suc i) k x (omega arith) ∙ getD-set-other l i k y x (λ e. omega arith)
+
+  entries-at : (entryAt : ℕ → E) (at k i : ℕ) (x : E) → i < k → getD (entriesFrom entryAt at k) i x ≡ entryAt (at + 4 * i)
+  unfolding entriesFrom
+  entries-at entryAt at zero i x h = absurd (omega arith)
+  entries-at entryAt at (suc k) zero x h = let e : at ≡ at + 4 * 0 = omega arith in ap entryAt e
+  entries-at entryAt at (suc k) (suc i) x h =
+      let e : at + 4 + 4 * i ≡ at + 4 * suc i = omega arith in
+      entries-at entryAt (at + 4) k i x (omega arith) ∙ ap entryAt e
+
+  module _ (blank : E) (entryAt : ℕ → E) (d : List ℕ) (at : ℕ) (p : Parts E) (x : E) where
+    pub part-read : (i : ℕ) → i < entriesRead d at → getD d (at + 1) 0 + i < length (resized blank (getD d at 0) p .places)
+        → getD (partAdded blank entryAt d at p .places) (getD d (at + 1) 0 + i) x ≡ entryAt (at + 3 + 4 * i)
+    unfolding partAdded
+    part-read i h g =
+        let xs = entriesFrom entryAt (at + 3) (entriesRead d at) in
+        let l : i < length xs = rw (entries-length entryAt (at + 3) (entriesRead d at)) h in
+        sets-in xs (resized blank (getD d at 0) p .places) (getD d (at + 1) 0) i x l g ∙ entries-at entryAt (at + 3) (entriesRead d at) i x h
+
+    pub part-kept : (k : ℕ) → (k < getD d (at + 1) 0) ⊎ (getD d (at + 1) 0 + entriesRead d at ≤ k)
+        → getD (partAdded blank entryAt d at p .places) k x ≡ getD (resized blank (getD d at 0) p .places) k x
+    unfolding partAdded
+    part-kept k (inl h) = sets-before (entriesFrom entryAt (at + 3) (entriesRead d at)) (resized blank (getD d at 0) p .places) (getD d (at + 1) 0) k x h
+    part-kept k (inr h) =
+        let xs = entriesFrom entryAt (at + 3) (entriesRead d at) in
+        sets-after xs (resized blank (getD d at 0) p .places) (getD d (at + 1) 0) k x (rw (entries-length entryAt (at + 3) (entriesRead d at)) h)

@@ -34,11 +34,15 @@ ghost use Rattle.lists.specs.Format2.{
 use field::u24_at;
 use field::u32_at;
 
-pub const SV_SUPPORTED_PGN_LIST: u32 = 0x1100;
+// The structure variants of the replies' data.
+const SV_SUPPORTED_PGN_LIST: u32 = 0x1100;
 
-pub const SV_TX_ENABLE_LIST: u32 = 0x1102;
+const SV_TX_ENABLE_LIST: u32 = 0x1102;
 
-pub const SV_PROP_TX_ENABLE_LIST: u32 = 0x1103;
+const SV_PROP_TX_ENABLE_LIST: u32 = 0x1103;
+
+// The bytes of a map that mean PGNs.
+const MAP_BYTES: usize = 32;
 
 // A place of the supported list: the index byte and the PGN of an entry, once filled.
 pub struct SupportedEntry {
@@ -97,7 +101,7 @@ fn map_count(map: &[u8]) -> usize
 {
     let mut n: usize = 0;
     let mut b: usize = 0;
-    while b < 32 {
+    while b < MAP_BYTES {
         if map.len() <= b {
             return n;
         }
@@ -138,7 +142,7 @@ fn map_pgns(base: u32, map: &[u8], out: &mut [u32], at: usize)
     let mut n = at;
     let mut first = base;
     let mut b: usize = 0;
-    while b < 32 {
+    while b < MAP_BYTES {
         if map.len() <= b {
             return;
         }
