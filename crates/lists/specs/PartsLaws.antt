@@ -8,7 +8,7 @@ use mathlib.Core.Path.{_≡_, refl, sym, ap, _∙_}
 use mathlib.Core.Bool.{Bool, true, false, _&&_}
 use mathlib.Core.Logic.{_⊎_, inl, inr}
 use mathlib.Core.List.{List, [], _∷_, _++_}
-use borrow.Author.Tests.{eq-eqb, ne-eqb}
+use borrow.Author.Tests.{eqb-true}
 use lib.Dec.{eqb}
 use lib.ListN.{length, getD, take, drop, set, replicate, length-take, length-set, drop-of-length-le}
 use lib.Seq.{sets, drop-cons, take-all, getD-take, getD-set-same, getD-set-other, length-take-le}
@@ -30,6 +30,10 @@ entries-least d at m n e f = rw (f, e)
 pub entries-fit : (d : List ℕ) (at : ℕ) → getD d at 0 ≤ 255 → getD d (at + 1) 0 ≤ 255 → getD d (at + 1) 0 + entriesRead d at ≤ 255
 unfolding entriesRead
 entries-fit d at h h′ = omega arith
+
+both-true : (a b : Bool) → (a && b) ≡ true → (a ≡ true) × (b ≡ true)
+both-true true b e = (refl, e)
+both-true false b e = let z : _≡_ {A = ℕ} 0 1 = cc in absurd (omega (arith, z))
 
 module _ {E : Type 0} where
   -- Filling
@@ -82,23 +86,18 @@ module _ {E : Type 0} where
   -- A size
 
   -- the same size again
-  pub resized-same : (blank : E) (size : ℕ) (p : Parts E) → p .sized ≡ true → p .size ≡ size → p ≡ resized blank size p
+  pub resized-same : (blank : E) (size : ℕ) (p : Parts E) → (p .sized && eqb (p .size) size) ≡ true → p ≡ resized blank size p
   unfolding resized
-  resized-same blank size p s e =
-      let t : (p .sized && eqb (p .size) size) ≡ true = rw (s, eq-eqb (p .size) size e) in
-      λ i. record { sized = s i; size = e i; places = pick (sym t i) (p .places) (replicate 255 blank) }
+  resized-same blank size p t =
+      let b = both-true (p .sized) (eqb (p .size) size) t in
+      let e = eqb-true (p .size) size (b .1) in
+      λ i. record { sized = b .0 i; size = e i; places = pick (sym t i) (p .places) (replicate 255 blank) }
 
-  -- the first size, and another
-  abbrev pub blankParts : E → ℕ → Parts E
-  blankParts blank size = record { sized = true; size = size; places = replicate 255 blank }
-
-  pub resized-first : (blank : E) (size : ℕ) (p : Parts E) → p .sized ≡ false → blankParts blank size ≡ resized blank size p
+  -- the first size, or another
+  pub resized-new : (blank : E) (size : ℕ) (p : Parts E) → (p .sized && eqb (p .size) size) ≡ false
+      → record { sized = true; size = size; places = replicate 255 blank } ≡ resized blank size p
   unfolding resized
-  resized-first blank size p s = rw s
-
-  pub resized-other : (blank : E) (size : ℕ) (p : Parts E) → p .sized ≡ true → (p .size ≡ size → ⊥) → blankParts blank size ≡ resized blank size p
-  unfolding resized
-  resized-other blank size p s n = rw (s, ne-eqb (p .size) size n)
+  resized-new blank size p t = rw t
 
   -- Going through the places
 

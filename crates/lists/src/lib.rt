@@ -2,8 +2,10 @@
 // from its replies, and the list of PGNs that they give.
 // Numbers: 16, the proprietary count passes 512; 7, the lent list is under 767.
 ghost use mathlib.Core.Path.{_≡_};
+ghost use mathlib.Core.Bool.{_&&_};
 ghost use mathlib.Core.List.{_++_};
 ghost use Prim.Native.Nat.{_+_, _*_, _≤_, _<_, _^_, min};
+ghost use lib.Dec.{eqb};
 ghost use lib.ListN.{length, take};
 ghost use lib.Seq.{sets};
 ghost use Rattle.field.specs.Puts.{Puts};
@@ -207,14 +209,18 @@ fn entries_read(data: &[u8], at: usize) -> usize
     least(data[at + 2] as usize, least(present, size - first))
 }
 
+fn same_size(sized: bool, old: u8, size: u8) -> bool
+    ensures { λ r. ⌜ r ≡ (sized && eqb old size) ⌝ }
+{
+    sized & (old == size)
+}
+
 // A new size starts blank.
 fn resize_supported(p: SupportedParts, size: u8) -> SupportedParts
     ensures { λ r. ⌜ r ≡ supportedOf (resized blankSupported size (supportedView p)) ⌝ }
 {
-    if p.sized {
-        if p.size == size {
-            return p;
-        }
+    if same_size(p.sized, p.size, size) {
+        return p;
     }
     let blank = SupportedEntry {
         filled: false,
@@ -231,10 +237,8 @@ fn resize_supported(p: SupportedParts, size: u8) -> SupportedParts
 fn resize_enabled(p: EnabledParts, size: u8) -> EnabledParts
     ensures { λ r. ⌜ r ≡ enabledOf (resized blankEnabled size (enabledView p)) ⌝ }
 {
-    if p.sized {
-        if p.size == size {
-            return p;
-        }
+    if same_size(p.sized, p.size, size) {
+        return p;
     }
     let blank = EnabledEntry {
         filled: false,
