@@ -1,32 +1,16 @@
 -- Format 2 lists worked out by hand: what the definitions compute to. Assumes nothing.
 use Prim.Native.Nat.{ℕ}
 use mathlib.Core.Path.{_≡_, refl}
-use mathlib.Core.Bool.{true, false}
+use mathlib.Core.Bool.{true}
 use mathlib.Core.List.{List, [], _∷_, _++_}
-use mathlib.Core.Option.{Option, none, some}
-use lib.ListN.{length, getD, take, replicate}
-use lib.Seq.{sets}
+use mathlib.Core.Option.{none, some}
+use lib.ListN.{length, take, replicate}
 use Rattle.field.specs.Fields.{field}
 use Rattle.lists.specs.declared.F2List.{F2List}
 use Rattle.lists.specs.Maps.{bitsFrom, mapPgns}
 use Rattle.lists.specs.Parts.{resized, entriesFrom, entriesRead, partAdded, every, whole}
 use Rattle.lists.specs.Matches.{firstMatch, matched}
-use Rattle.lists.specs.Format2.{
-  blankSupported,
-  noParts,
-  addSupported,
-  proprietaryAdded,
-  enabledAdded,
-  addEnabled,
-  allWhole,
-  wholeList,
-  pgnsOf,
-  formed,
-  listed,
-  list,
-  part,
-  refused,
-}
+use Rattle.lists.specs.Format2.{blankSupported, noParts, addSupported, proprietaryAdded, enabledAdded, addEnabled, allWhole, wholeList, pgnsOf, formed, listed, list, part, refused}
 
 -- replies: a supported part with its size, first, count and entries, an enabled part likewise, and the two maps
 abbrev supportedPart : ℕ → ℕ → ℕ → List ℕ → List ℕ

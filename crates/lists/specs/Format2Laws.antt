@@ -1,22 +1,20 @@
 -- Laws of Format 2 lists: what a reply adds, case by case, what is answered, and that a well-formed state stays so. Assumes nothing.
-use Prim.Native.Nat.{ℕ, zero, suc, _+_, _-_, _≤_, _<_}
+use Prim.Native.Nat.{ℕ, _+_, _-_, _≤_, _<_}
 use native.Mathlib.Omega.{arith}
 use mathlib.Core.Path.{_≡_, refl, sym, ap, ap₂, _∙_}
 use mathlib.Core.Bool.{Bool, true, false, _&&_}
-use mathlib.Core.List.{List, [], _∷_, _++_}
+use mathlib.Core.List.{List, _++_}
 use mathlib.Core.Option.{Option, none, some}
 use borrow.Author.Tests.{lt-ltb, le-ltb, le-leb, lt-leb, leb-true, eq-eqb, ne-eqb}
-use lib.Dec.{ltb, leb, eqb}
+use lib.Dec.{leb, eqb}
 use lib.ListN.{length, getD, take, drop, length-append, length-take}
-use lib.Seq.{sets, take-all, length-take-le}
+use lib.Seq.{sets}
 use Rattle.field.specs.Pick.{pick}
-use Rattle.field.specs.Fields.{field, Bytes}
+use Rattle.field.specs.Fields.{Bytes}
 use Rattle.field.specs.FieldLaws.{bytes-take}
 use Rattle.field.specs.Puts.{Puts, puts-then, puts-written}
 use Rattle.field.specs.WrittenLaws.{sets-then}
 use Rattle.field.specs.Written.{written}
-use Rattle.lists.specs.declared.EnabledParts.{EnabledParts}
-use Rattle.lists.specs.declared.SupportedParts.{SupportedParts}
 use Rattle.lists.specs.declared.List512.{List512}
 use Rattle.lists.specs.declared.Proprietary.{Proprietary}
 use Rattle.lists.specs.declared.F2List.{F2List}
@@ -24,43 +22,11 @@ use Rattle.lists.specs.declared.F2Read.{F2Read}
 use Rattle.lists.specs.declared.F2Read.the-variants.{Whole, Partial, Refused}
 use Rattle.lists.specs.Maps.{onesOf, mapPgns}
 use Rattle.lists.specs.MapLaws.{map-length, map-256}
-use Rattle.lists.specs.Parts.{partAdded, below, whole}
+use Rattle.lists.specs.Parts.{partAdded, below}
 use Rattle.lists.specs.PartsLaws.{below-places}
 use Rattle.lists.specs.Matches.{matched}
 use Rattle.lists.specs.MatchLaws.{matched-le}
-use Rattle.lists.specs.Format2.{
-  supportedView,
-  supportedOf,
-  enabledView,
-  enabledOf,
-  supportedFilled,
-  enabledFilled,
-  blankSupported,
-  blankEnabled,
-  supportedAt,
-  enabledAt,
-  noParts,
-  variant,
-  addSupported,
-  mapEnd,
-  mapAt,
-  bothPgns,
-  listOf,
-  proprietaryAdded,
-  enabledAdded,
-  addEnabled,
-  allWhole,
-  wholeList,
-  pgnsOf,
-  formed,
-  Answer,
-  list,
-  part,
-  refused,
-  toldRead,
-  told,
-  listed,
-}
+use Rattle.lists.specs.Format2.{supportedView, supportedOf, enabledView, enabledOf, blankSupported, blankEnabled, supportedAt, enabledAt, noParts, variant, addSupported, mapEnd, mapAt, bothPgns, listOf, proprietaryAdded, enabledAdded, addEnabled, allWhole, wholeList, pgnsOf, formed, Answer, list, part, refused, toldRead, told, listed}
 
 -- A reply 40
 
@@ -205,6 +171,11 @@ lentOf (list n out) = out
 lentOf (part out) = out
 lentOf (refused number out) = out
 
+abbrev countOf : Answer → ℕ
+countOf (list n out) = n
+countOf (part out) = 0
+countOf (refused number out) = 0
+
 read-told : (r : F2Read) (o : List ℕ) → readOf (toldRead r o) ≡ r
 read-told (Whole n) o = refl
 read-told Partial o = refl
@@ -220,6 +191,29 @@ read-tells r q o l e = (
   sym (read-told r o) ∙ ap readOf e ∙ read-told q l,
   sym (lent-told r o) ∙ ap lentOf e ∙ lent-told q l,
 )
+
+-- what a caller that lends enough room hears of a well-formed state
+pub listed-told : (p : F2List) (out : List ℕ) → formed p ≡ true → 767 ≤ length out → listed p out ≡ told (pgnsOf p) out
+unfolding listed
+listed-told p out h g = rw (h, le-ltb (length out) 767 g)
+
+pub listed-unformed : (p : F2List) (out : List ℕ) → formed p ≡ false → listed p out ≡ refused 16 out
+unfolding listed
+listed-unformed p out h = rw h
+
+-- and what each answer means then
+pub told-whole : (o : Option (List ℕ)) (n : ℕ) (last out : List ℕ) → toldRead (Whole n) last ≡ told o out
+    → (l : List ℕ) × (o ≡ some l) × (n ≡ length l) × (last ≡ written l out)
+told-whole none n last out e = let z : _≡_ {A = ℕ} 0 1 = cc in absurd (omega (arith, z))
+told-whole (some l) n last out e = (l, refl, ap countOf e, ap lentOf e)
+
+pub told-partial : (o : Option (List ℕ)) (last out : List ℕ) → toldRead Partial last ≡ told o out → (o ≡ none) × (last ≡ out)
+told-partial none last out e = (refl, ap lentOf e)
+told-partial (some l) last out e = let z : _≡_ {A = ℕ} 0 1 = cc in absurd (omega (arith, z))
+
+pub told-refused : (o : Option (List ℕ)) (number : ℕ) (last out : List ℕ) → toldRead (Refused number) last ≡ told o out → ⊥
+told-refused none number last out e = let z : _≡_ {A = ℕ} 0 1 = cc in omega (arith, z)
+told-refused (some l) number last out e = let z : _≡_ {A = ℕ} 0 1 = cc in omega (arith, z)
 
 -- A well-formed state
 

@@ -6,11 +6,12 @@ use native.Mathlib.Numerals.{add-one}
 use native.Mathlib.Omega.{arith}
 use mathlib.Core.Path.{_≡_, refl, sym, ap, _∙_}
 use mathlib.Core.Bool.{Bool, true, false, _&&_}
+use mathlib.Core.Logic.{_⊎_, inl, inr}
 use mathlib.Core.List.{List, [], _∷_, _++_}
-use borrow.Author.Tests.{eq-eqb, ne-eqb}
+use borrow.Author.Tests.{eqb-true}
 use lib.Dec.{eqb}
-use lib.ListN.{length, getD, take, drop, set, replicate, length-take, drop-of-length-le}
-use lib.Seq.{sets, drop-cons, take-all, getD-take, length-take-le}
+use lib.ListN.{length, getD, take, drop, set, replicate, length-take, length-set, drop-of-length-le}
+use lib.Seq.{sets, drop-cons, take-all, getD-take, getD-set-same, getD-set-other, length-take-le}
 use Rattle.field.specs.Pick.{pick}
 use Rattle.lists.specs.Parts.{Parts, resized, placed, entriesFrom, entriesRead, partAdded, below, every, whole}
 
@@ -29,6 +30,10 @@ entries-least d at m n e f = rw (f, e)
 pub entries-fit : (d : List ℕ) (at : ℕ) → getD d at 0 ≤ 255 → getD d (at + 1) 0 ≤ 255 → getD d (at + 1) 0 + entriesRead d at ≤ 255
 unfolding entriesRead
 entries-fit d at h h′ = omega arith
+
+both-true : (a b : Bool) → (a && b) ≡ true → (a ≡ true) × (b ≡ true)
+both-true true b e = (refl, e)
+both-true false b e = let z : _≡_ {A = ℕ} 0 1 = cc in absurd (omega (arith, z))
 
 module _ {E : Type 0} where
   -- Filling
@@ -81,23 +86,18 @@ module _ {E : Type 0} where
   -- A size
 
   -- the same size again
-  pub resized-same : (blank : E) (size : ℕ) (p : Parts E) → p .sized ≡ true → p .size ≡ size → p ≡ resized blank size p
+  pub resized-same : (blank : E) (size : ℕ) (p : Parts E) → (p .sized && eqb (p .size) size) ≡ true → p ≡ resized blank size p
   unfolding resized
-  resized-same blank size p s e =
-      let t : (p .sized && eqb (p .size) size) ≡ true = rw (s, eq-eqb (p .size) size e) in
-      λ i. record { sized = s i; size = e i; places = pick (sym t i) (p .places) (replicate 255 blank) }
+  resized-same blank size p t =
+      let b = both-true (p .sized) (eqb (p .size) size) t in
+      let e = eqb-true (p .size) size (b .1) in
+      λ i. record { sized = b .0 i; size = e i; places = pick (sym t i) (p .places) (replicate 255 blank) }
 
-  -- the first size, and another
-  abbrev pub blankParts : E → ℕ → Parts E
-  blankParts blank size = record { sized = true; size = size; places = replicate 255 blank }
-
-  pub resized-first : (blank : E) (size : ℕ) (p : Parts E) → p .sized ≡ false → blankParts blank size ≡ resized blank size p
+  -- the first size, or another
+  pub resized-new : (blank : E) (size : ℕ) (p : Parts E) → (p .sized && eqb (p .size) size) ≡ false
+      → record { sized = true; size = size; places = replicate 255 blank } ≡ resized blank size p
   unfolding resized
-  resized-first blank size p s = rw s
-
-  pub resized-other : (blank : E) (size : ℕ) (p : Parts E) → p .sized ≡ true → (p .size ≡ size → ⊥) → blankParts blank size ≡ resized blank size p
-  unfolding resized
-  resized-other blank size p s n = rw (s, ne-eqb (p .size) size n)
+  resized-new blank size p t = rw t
 
   -- Going through the places
 
@@ -131,3 +131,48 @@ module _ {E : Type 0} where
       → every f (take (p .size) (p .places)) ≡ b → b ≡ whole f p
   unfolding whole
   whole-sized f p b s h e = rw (s, below-places p h, e)
+
+  -- What stands where, after a part: the entry that was read for a place, else what stood there under that size
+
+  sets-before : (xs l : List E) (i k : ℕ) (x : E) → k < i → getD (sets l i xs) k x ≡ getD l k x
+  sets-before [] l i k x h = refl
+  sets-before (y ∷ xs) l i k x h = sets-before xs (set l i y) (suc i) k x (omega arith) ∙ getD-set-other l i k y x (λ e. omega arith)
+
+  sets-in : (xs l : List E) (i j : ℕ) (x : E) → j < length xs → i + j < length l → getD (sets l i xs) (i + j) x ≡ getD xs j x
+  sets-in [] l i j x h g = absurd (omega arith)
+  sets-in (y ∷ xs) l i zero x h g =
+      ap (λ (k : ℕ). getD (sets (set l i y) (suc i) xs) k x) (add-zero i)
+      ∙ sets-before xs (set l i y) (suc i) i x (omega arith)
+      ∙ getD-set-same l i y x (omega arith)
+  sets-in (y ∷ xs) l i (suc j) x h g =
+      let e : i + suc j ≡ suc i + j = omega arith in
+      ap (λ (k : ℕ). getD (sets (set l i y) (suc i) xs) k x) e ∙ sets-in xs (set l i y) (suc i) j x (omega arith) (simp length-set (omega arith))
+
+  sets-after : (xs l : List E) (i k : ℕ) (x : E) → i + length xs ≤ k → getD (sets l i xs) k x ≡ getD l k x
+  sets-after [] l i k x h = refl
+  sets-after (y ∷ xs) l i k x h = sets-after xs (set l i y) (suc i) k x (omega arith) ∙ getD-set-other l i k y x (λ e. omega arith)
+
+  entries-at : (entryAt : ℕ → E) (at k i : ℕ) (x : E) → i < k → getD (entriesFrom entryAt at k) i x ≡ entryAt (at + 4 * i)
+  unfolding entriesFrom
+  entries-at entryAt at zero i x h = absurd (omega arith)
+  entries-at entryAt at (suc k) zero x h = let e : at ≡ at + 4 * 0 = omega arith in ap entryAt e
+  entries-at entryAt at (suc k) (suc i) x h =
+      let e : at + 4 + 4 * i ≡ at + 4 * suc i = omega arith in
+      entries-at entryAt (at + 4) k i x (omega arith) ∙ ap entryAt e
+
+  module _ (blank : E) (entryAt : ℕ → E) (d : List ℕ) (at : ℕ) (p : Parts E) (x : E) where
+    pub part-read : (i : ℕ) → i < entriesRead d at → getD d (at + 1) 0 + i < length (resized blank (getD d at 0) p .places)
+        → getD (partAdded blank entryAt d at p .places) (getD d (at + 1) 0 + i) x ≡ entryAt (at + 3 + 4 * i)
+    unfolding partAdded
+    part-read i h g =
+        let xs = entriesFrom entryAt (at + 3) (entriesRead d at) in
+        let l : i < length xs = rw (entries-length entryAt (at + 3) (entriesRead d at)) h in
+        sets-in xs (resized blank (getD d at 0) p .places) (getD d (at + 1) 0) i x l g ∙ entries-at entryAt (at + 3) (entriesRead d at) i x h
+
+    pub part-kept : (k : ℕ) → (k < getD d (at + 1) 0) ⊎ (getD d (at + 1) 0 + entriesRead d at ≤ k)
+        → getD (partAdded blank entryAt d at p .places) k x ≡ getD (resized blank (getD d at 0) p .places) k x
+    unfolding partAdded
+    part-kept k (inl h) = sets-before (entriesFrom entryAt (at + 3) (entriesRead d at)) (resized blank (getD d at 0) p .places) (getD d (at + 1) 0) k x h
+    part-kept k (inr h) =
+        let xs = entriesFrom entryAt (at + 3) (entriesRead d at) in
+        sets-after xs (resized blank (getD d at 0) p .places) (getD d (at + 1) 0) k x (rw (entries-length entryAt (at + 3) (entriesRead d at)) h)

@@ -2,8 +2,10 @@
 // from its replies, and the list of PGNs that they give.
 // Numbers: 16, the proprietary count passes 512; 7, the lent list is under 767.
 ghost use mathlib.Core.Path.{_≡_};
+ghost use mathlib.Core.Bool.{_&&_};
 ghost use mathlib.Core.List.{_++_};
 ghost use Prim.Native.Nat.{_+_, _*_, _≤_, _<_, _^_, min};
+ghost use lib.Dec.{eqb};
 ghost use lib.ListN.{length, take};
 ghost use lib.Seq.{sets};
 ghost use Rattle.field.specs.Puts.{Puts};
@@ -34,11 +36,15 @@ ghost use Rattle.lists.specs.Format2.{
 use field::u24_at;
 use field::u32_at;
 
-pub const SV_SUPPORTED_PGN_LIST: u32 = 0x1100;
+// The structure variants of the replies' data.
+const SV_SUPPORTED_PGN_LIST: u32 = 0x1100;
 
-pub const SV_TX_ENABLE_LIST: u32 = 0x1102;
+const SV_TX_ENABLE_LIST: u32 = 0x1102;
 
-pub const SV_PROP_TX_ENABLE_LIST: u32 = 0x1103;
+const SV_PROP_TX_ENABLE_LIST: u32 = 0x1103;
+
+// The bytes of a map that mean PGNs.
+const MAP_BYTES: usize = 32;
 
 // A place of the supported list: the index byte and the PGN of an entry, once filled.
 pub struct SupportedEntry {
@@ -97,7 +103,7 @@ fn map_count(map: &[u8]) -> usize
 {
     let mut n: usize = 0;
     let mut b: usize = 0;
-    while b < 32 {
+    while b < MAP_BYTES {
         if map.len() <= b {
             return n;
         }
@@ -138,7 +144,7 @@ fn map_pgns(base: u32, map: &[u8], out: &mut [u32], at: usize)
     let mut n = at;
     let mut first = base;
     let mut b: usize = 0;
-    while b < 32 {
+    while b < MAP_BYTES {
         if map.len() <= b {
             return;
         }
@@ -203,14 +209,18 @@ fn entries_read(data: &[u8], at: usize) -> usize
     least(data[at + 2] as usize, least(present, size - first))
 }
 
+fn same_size(sized: bool, old: u8, size: u8) -> bool
+    ensures { λ r. ⌜ r ≡ (sized && eqb old size) ⌝ }
+{
+    sized & (old == size)
+}
+
 // A new size starts blank.
 fn resize_supported(p: SupportedParts, size: u8) -> SupportedParts
     ensures { λ r. ⌜ r ≡ supportedOf (resized blankSupported size (supportedView p)) ⌝ }
 {
-    if p.sized {
-        if p.size == size {
-            return p;
-        }
+    if same_size(p.sized, p.size, size) {
+        return p;
     }
     let blank = SupportedEntry {
         filled: false,
@@ -227,10 +237,8 @@ fn resize_supported(p: SupportedParts, size: u8) -> SupportedParts
 fn resize_enabled(p: EnabledParts, size: u8) -> EnabledParts
     ensures { λ r. ⌜ r ≡ enabledOf (resized blankEnabled size (enabledView p)) ⌝ }
 {
-    if p.sized {
-        if p.size == size {
-            return p;
-        }
+    if same_size(p.sized, p.size, size) {
+        return p;
     }
     let blank = EnabledEntry {
         filled: false,

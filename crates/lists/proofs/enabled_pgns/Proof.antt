@@ -8,6 +8,8 @@ use mathlib.Core.List.{List, []}
 use borrow.Author.Needs.{needs}
 use lib.ListN.{length, getD, take, drop, length-set, length-map}
 use lib.Seq.{sets}
+use Rattle.lists.specs.declared.SupportedParts.{SupportedParts}
+use Rattle.lists.specs.declared.EnabledParts.{EnabledParts}
 use Rattle.lists.specs.Matches.{matched, tableOf}
 use Rattle.lists.specs.MatchLaws.{matched-hit, matched-miss, matched-end}
 use Rattle.lists.specs.Parts.{below}
@@ -15,13 +17,20 @@ use Rattle.lists.specs.Format2.{blankSupported, blankEnabled}
 use Rattle.lists.proofs.enabled_pgns.Statement.{statement}
 use Rattle.lists.proofs.enabled_pgns.Tie as tie
 
+-- the PGNs of the first places of the enabled list, and of those from k on
+abbrev ofAll : SupportedParts → EnabledParts → ℕ → List ℕ
+ofAll s e size = matched (take (s .size) (s .entries)) (take size (e .entries))
+
+abbrev ofRest : SupportedParts → EnabledParts → ℕ → ℕ → List ℕ
+ofRest s e size k = matched (take (s .size) (s .entries)) (drop k (take size (e .entries)))
+
 abbrev Inv-loop : tie.InvT-loop
 Inv-loop out₀ s e table size n₀ k₀ out n k =
     (k ≤ size)
     × (n ≤ k)
     × (length out ≡ length out₀)
-    × (n + length (matched (take (s .size) (s .entries)) (drop k (take size (e .entries)))) ≡ length (matched (take (s .size) (s .entries)) (take size (e .entries))))
-    × (sets out n (matched (take (s .size) (s .entries)) (drop k (take size (e .entries)))) ≡ sets out₀ 0 (matched (take (s .size) (s .entries)) (take size (e .entries))))
+    × (n + length (ofRest s e size k) ≡ length (ofAll s e size))
+    × (sets out n (ofRest s e size k) ≡ sets out₀ 0 (ofAll s e size))
 
 abbrev μ-loop : tie.MeasureT-loop
 μ-loop out₀ s e table size n₀ k₀ out n k = size - k
@@ -84,16 +93,18 @@ loop-again c =
     let s = st .args .t1 in
     let e = st .args .t2 in
     let v = c .before .before .before .before .loop in
-    let left = matched (take (s .size) (s .entries)) (drop (v .k + 1) (take (e .size) (e .entries))) in
+    let left = ofRest s e (e .size) (v .k + 1) in
     let sl : length (s .entries) ≡ 255 = places-255 st in
     let el : length (e .entries) ≡ 255 = enabled-255 st in
     let sb : s .size ≤ 255 = search needs in
     let eb : e .size ≤ 255 = search needs in
-    let byte : getD (e .entries) (v .k) blankEnabled .index < 256 = search needs in
+    let index = getD (e .entries) (v .k) blankEnabled .index in
+    let byte : index < 256 = search needs in
     let below : v .k < e .size = omega arith in
-    let place = getD (c .before .before .before .before .before .first-places .result) (getD (e .entries) (v .k) blankEnabled .index) 0 in
-    let looked : place ≡ getD (tableOf (take (s .size) (s .entries)) 0) (getD (e .entries) (v .k) blankEnabled .index) 0 =
-    ap (λ (t : List ℕ). getD t (getD (e .entries) (v .k) blankEnabled .index) 0) (c .before .before .before .before .before .first-places .ensures) in
+    let table = c .before .before .before .before .before .first-places in
+    let place = getD (table .result) (index) 0 in
+    let looked : place ≡ getD (tableOf (take (s .size) (s .entries)) 0) (index) 0 =
+    ap (λ (t : List ℕ). getD t (index) 0) (table .ensures) in
     ⊎-elim
     (λ w.
     let q = matched-hit (s .entries) (s .size) (e .entries) (e .size) (v .k) blankSupported blankEnabled place (omega arith) sb below (omega arith) byte looked (w .0 .taken) in (
@@ -121,8 +132,8 @@ returns c =
     let a = c .before .before .before .before .args in
     let v = c .before .loop in
     let z : v .k ≡ a .t2 .size = omega arith in
-    let none : matched (take (a .t1 .size) (a .t1 .entries)) (drop (v .k) (take (a .t2 .size) (a .t2 .entries))) ≡ [] =
-    ap (λ (k : ℕ). matched (take (a .t1 .size) (a .t1 .entries)) (drop k (take (a .t2 .size) (a .t2 .entries)))) z ∙ matched-end (take (a .t1 .size) (a .t1 .entries)) (a .t2 .entries) (a .t2 .size) in
+    let none : ofRest (a .t1) (a .t2) (a .t2 .size) (v .k) ≡ [] =
+    ap (ofRest (a .t1) (a .t2) (a .t2 .size)) z ∙ matched-end (take (a .t1 .size) (a .t1 .entries)) (a .t2 .entries) (a .t2 .size) in
     record { stored = rw none at (v .inv .4); after = omega (arith, ap length none, v .inv .3) }
 
 pub enabled-pgns-spec : {M : Type 1} → statement M

@@ -39,12 +39,13 @@ enabled-pgns-requires c κs = search needs
 
 copy-requires : tie.Need-copy-requires
 copy-requires c κs =
+    let m = c .before .before .before .before .before .before .enabled-pgns in
     let st = c .before .before .before .before .before .before .before .before .before .before .before .before .before .before .before in
     let p = st .args .t1 in
-    let m = c .before .before .before .before .before .before .enabled-pgns in
     let few : p .proprietary .list .n ≤ 512 = c .before .before .before .before .before .before .before .before .before .before .before .before .before .if1 .left in
     let room : 767 ≤ length (st .args .out .now) = c .before .before .before .before .before .before .before .before .before .before .before .before .if2 .left in
-    let at : m .result ≤ 255 = omega (arith, m .ensures .after, matched-255 (take (p .supported .size) (p .supported .entries)) (p .enabled .entries) (p .enabled .size) (enabled-255 st)) in
+    let s = take (p .supported .size) (p .supported .entries) in
+    let at : m .result ≤ 255 = omega (arith, m .ensures .after, matched-255 s (p .enabled .entries) (p .enabled .size) (enabled-255 st)) in
     (omega (arith, few, pgns-512 st), omega (arith, few, room, at, m .kept .1 .1 .0))
 
 same-length : tie.Need-same-length
@@ -52,11 +53,13 @@ same-length c = search needs
 
 returns-4 : tie.Need-returns-4
 returns-4 c =
-    let st = c .before .before .before .before .before .before .before .before .before .before .before .before .before .before .before .before .before .before in
-    let m = c .before .before .before .before .before .before .before .before .before .enabled-pgns in
     let k = c .before .before .copy in
-    listed-put (st .args .t1) (st .args .out .now) (m .last .1 .1 .0) (k .last .1 .1 .0) (m .result) (k .result) (supported-255 st) (enabled-255 st) (c .before .before .before .before .before .before .before .before .before .before .before .before .before .before .before .before .if1 .left) (c .before .before .before .before .before .before .before .before .before .before .before .before .before .before .before .if2 .left)
-    (sym (c .before .before .before .before .before .before .before .before .before .before .before .before .before .before .all-whole .ensures) ∙ not-false (c .before .before .before .before .before .before .before .before .before .before .before .before .before .before .all-whole .result) (c .before .before .before .before .before .before .before .before .before .before .before .before .before .if3 .left)) (m .ensures) (k .ensures)
+    let m = c .before .before .before .before .before .before .before .before .before .enabled-pgns in
+    let w = c .before .before .before .before .before .before .before .before .before .before .before .before .before in
+    let st = w .before .before .before .before .before in
+    let all = sym (w .before .all-whole .ensures) ∙ not-false (w .before .all-whole .result) (w .if3 .left) in
+    listed-put (st .args .t1) (st .args .out .now) (m .last .1 .1 .0) (k .last .1 .1 .0) (m .result) (k .result) (supported-255 st) (enabled-255 st)
+    (w .before .before .before .if1 .left) (w .before .before .if2 .left) all (m .ensures) (k .ensures)
 
 pub pgns-spec : {M : Type 1} → statement M
 pgns-spec =
