@@ -1,0 +1,3 @@
+-- The tests for 16 on counts, and their laws.
+pub mod Bounds
+pub mod BoundsLaws

@@ -1,0 +1,2 @@
+-- Demand 3 and liveness of the session's functions.
+pub mod Demand3

@@ -1,0 +1,5 @@
+-- The session's struct as the model's session, and demand 3 of it.
+pub mod Sync
+pub mod Sound
+pub mod SyncLaws
+pub mod Played

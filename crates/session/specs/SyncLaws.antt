@@ -1,0 +1,51 @@
+-- Laws of the struct: the test for 16 on its counts, and its fields under both names. Assumes nothing.
+use Prim.Native.Nat.{ℕ, _+_}
+use mathlib.Core.Path.{_≡_, refl, sym, ap, ap₂, _∙_}
+use mathlib.Core.Bool.{Bool, true, false, _&&_}
+use lib.Dec.{leb}
+use Rattle.lists.specs.declared.F2List.{F2List}
+use Rattle.lists.specs.Format2.{formed}
+use Rattle.tx_list.specs.Session.{allLe, knownMax}
+use Rattle.tx_list.specs.Memory.{Flat, counts}
+use Rattle.tx_list.specs.Moves.{formatIn, owesIn, sumsIn, soundIn}
+use Rattle.tx_list.specs.declared.State.{State}
+use Rattle.tx_list.specs.declared.State.the-variants.{AwaitStartup, ReadAt, ReadingF2, Reading as ReadingF1, Enabling, Committing, Activating, Done}
+use Rattle.bounds.specs.Bounds.{countsFit, sumsFit, soundAt}
+use Rattle.session.specs.declared.TxListSync.{TxListSync}
+use Rattle.session.specs.Sync.{kind, ofSync, toSync}
+use Rattle.session.specs.Sound.{helm, countsOf}
+
+-- the names of the fields, there and back
+pub of-to : (h : Flat F2List ℕ) → ofSync (toSync h) ≡ h
+of-to h = refl
+
+pub to-of : (s : TxListSync) → toSync (ofSync s) ≡ s
+to-of s = refl
+
+and-true : (a : Bool) → (a && true) ≡ a
+and-true true = refl
+and-true false = refl
+
+and-assoc : (a b c : Bool) → ((a && b) && c) ≡ (a && (b && c))
+and-assoc true b c = refl
+and-assoc false b c = refl
+
+counts-same : (s : TxListSync) → countsFit helm (countsOf (s .held)) ≡ (formed (s .held .f2) && allLe (counts kind (ofSync s)))
+unfolding formed knownMax
+counts-same s = simp (and-assoc, and-true)
+
+sums-same : (s : TxListSync) (st : State) → sumsFit helm (countsOf (s .held)) st ≡ allLe (sumsIn kind st (ofSync s))
+unfolding knownMax
+sums-same s AwaitStartup = simp (and-assoc, and-true)
+sums-same s ReadAt = simp (and-assoc, and-true)
+sums-same s (ReadingF2 a) = simp (and-assoc, and-true)
+sums-same s (ReadingF1 a) = simp (and-assoc, and-true)
+sums-same s Enabling = simp (and-assoc, and-true)
+sums-same s Committing = simp (and-assoc, and-true)
+sums-same s Activating = simp (and-assoc, and-true)
+sums-same s Done = refl
+
+pub sound-same : (s : TxListSync) → soundAt helm (countsOf (s .held)) (s .state) ≡ soundIn kind (ofSync s)
+unfolding soundIn
+sound-same s =
+    ap₂ (λ (x y : Bool). x && (formatIn true (s .state) && (owesIn (s .state) (s .held .owed .n) && y))) (counts-same s) (sums-same s (s .state))

@@ -1,0 +1,236 @@
+// The transmit-list session (document 01, module 6): reads the gateway's transmit list and has it transmit what is wanted.
+// A session is a value that goes in and comes back; commands go into a lent output of 32 bytes or more, end to end.
+// Stands on lists (Format 2), views (what a message says), pgns, commands and framing; specs/Sync ties it to the model of tx_list.
+// Numbers: 6 message over 255 bytes, 7 output under 32, 11 over 64 wanted, 12 a record list over 192, 13 tick over the limit,
+// 14 Format 1 list over 1,024, 16 state not well formed. A refusal changes nothing.
+mod answers;
+mod opening;
+mod reading;
+mod sound;
+mod ticks;
+mod write;
+
+ghost use mathlib.Core.Path.{_≡_};
+ghost use lib.ListN.{length};
+ghost use Rattle.tx_list.specs.Reading as model;
+ghost use Rattle.session.specs.Sync.{recordOf, toldCalled, called, setTo, restarted, abandoned, begunWith, doneOf, lackOf, toldLacks};
+use lists::F2List;
+use tx_list::State;
+
+pub struct List64 {
+    pub pgns: [u32; 64],
+    pub n: usize,
+}
+
+pub struct List256 {
+    pub pgns: [u32; 256],
+    pub n: usize,
+}
+
+pub struct List1024 {
+    pub pgns: [u32; 1024],
+    pub n: usize,
+}
+
+pub struct List1344 {
+    pub pgns: [u32; 1344],
+    pub n: usize,
+}
+
+// What the gateway confirmed, session after session: saved PGNs, those already there, those refused.
+pub struct TxListRecord {
+    pub saved: List256,
+    pub present: List256,
+    pub refused: List256,
+}
+
+// The gateway's list, once read, with what was enabled since; complete where it was read in Format 2.
+pub struct Known {
+    pub read: bool,
+    pub complete: bool,
+    pub list: List1344,
+}
+
+// The gateway's firmware version times 1000, once told.
+pub struct Firmware {
+    pub told: bool,
+    pub version: u16,
+}
+
+// All of a session but its phase. A field that is an enum is not stored to, so the phase stands beside this.
+pub struct Held {
+    pub wanted: List64,
+    pub owed: List64,
+    pub fresh: List64,
+    pub list: List1024,
+    pub f2: F2List,
+    pub known: Known,
+    pub learned: TxListRecord,
+    pub deadline: u64,
+    pub firmware: Firmware,
+}
+
+pub struct TxListSync {
+    pub state: State,
+    pub held: Held,
+}
+
+// What a message or a tick answers: 0 or the refusal's number, how many bytes were written, and the session.
+pub struct Called {
+    pub number: u8,
+    pub count: usize,
+    pub sync: TxListSync,
+}
+
+// What begin, restart, setting firmware and abandoning answer: 0 or the refusal's number, and the session.
+pub struct Begun {
+    pub number: u8,
+    pub sync: TxListSync,
+}
+
+// Whether the session is done, or the refusal's number.
+pub struct IsDone {
+    pub number: u8,
+    pub done: bool,
+}
+
+// What is said of a PGN: nothing; that it lacks from a whole list, or from a partial one; or the refusal's number.
+pub enum Lacks {
+    Nothing,
+    Whole,
+    Partial,
+    Refused(u8),
+}
+
+// The largest time that a call may give: 10,000 ms more still fit 64 bits.
+pub const TICK_LIMIT: u64 = 18446744073709541615;
+
+impl TxListSync {
+    // A session that wants these PGNs, with what is known from earlier ones. Refuses with 11, 12; there is no session then.
+    pub fn begin(wanted: &[u32], learned: TxListRecord) -> Begun
+        ensures { λ r. ⌜ r ≡ begunWith (now (wanted .entry)) (recordOf learned) ⌝ }
+    {
+        if 64 < wanted.len() {
+            return opening::refused_begin(11);
+        }
+        if !sound::record_fits(learned) {
+            return opening::refused_begin(12);
+        }
+        let sync = opening::new_sync(wanted, learned);
+        Begun { number: 0, sync }
+    }
+
+    // The session from its start: wanted and record are kept. Refuses with 16, 12.
+    pub fn restart(self) -> Begun
+        ensures { λ r. ⌜ r ≡ restarted self ⌝ }
+    {
+        if !sound::is_sound(self) {
+            return Begun {
+                number: 16,
+                sync: self,
+            };
+        }
+        if !sound::record_fits(self.held.learned) {
+            return Begun {
+                number: 12,
+                sync: self,
+            };
+        }
+        let sync = opening::started_over(self);
+        Begun { number: 0, sync }
+    }
+
+    // A message of the gateway at a time. Refuses with 16, 13, 6, 7, 14.
+    pub fn message(self, time: u64, payload: &[u8], out: &mut [u8]) -> Called
+        ensures { λ r. ⌜ toldCalled r (now (out .exit)) ≡ called self (model.message time (now (payload .entry)) (length (now (out .entry)))) (now (out .entry)) ⌝ }
+    {
+        if !sound::is_sound(self) {
+            return write::refused(16, self);
+        }
+        if TICK_LIMIT < time {
+            return write::refused(13, self);
+        }
+        if 255 < payload.len() {
+            return write::refused(6, self);
+        }
+        if out.len() < 32 {
+            return write::refused(7, self);
+        }
+        if reading::is_full(self, payload) {
+            return write::refused(14, self);
+        }
+        let step = reading::heard(self, time, payload);
+        write::told(step, out)
+    }
+
+    // The passing of time. Refuses with 16, 13, 7.
+    pub fn tick(self, time: u64, out: &mut [u8]) -> Called
+        ensures { λ r. ⌜ toldCalled r (now (out .exit)) ≡ called self (model.tick time (length (now (out .entry)))) (now (out .entry)) ⌝ }
+    {
+        if !sound::is_sound(self) {
+            return write::refused(16, self);
+        }
+        if TICK_LIMIT < time {
+            return write::refused(13, self);
+        }
+        if out.len() < 32 {
+            return write::refused(7, self);
+        }
+        let step = ticks::ticked(self, time);
+        write::told(step, out)
+    }
+
+    // The gateway's firmware version times 1000, from its product information. Refuses with 16.
+    pub fn set_firmware(self, version: u16) -> Begun
+        ensures { λ r. ⌜ r ≡ setTo self version ⌝ }
+    {
+        if !sound::is_sound(self) {
+            return Begun {
+                number: 16,
+                sync: self,
+            };
+        }
+        let sync = opening::with_firmware(self, version);
+        Begun { number: 0, sync }
+    }
+
+    // The gateway has no list to set: the session is done and no list is known. Refuses with 16.
+    pub fn abandon(self) -> Begun
+        ensures { λ r. ⌜ r ≡ abandoned self ⌝ }
+    {
+        if !sound::is_sound(self) {
+            return Begun {
+                number: 16,
+                sync: self,
+            };
+        }
+        let step = ticks::give_up(self);
+        let sync = step.sync;
+        Begun { number: 0, sync }
+    }
+
+    // Whether the session is done. Refuses with 16.
+    pub fn is_done(self) -> IsDone
+        ensures { λ r. ⌜ r ≡ doneOf self ⌝ }
+    {
+        if !sound::is_sound(self) {
+            return IsDone {
+                number: 16,
+                done: false,
+            };
+        }
+        let st = self.state;
+        let done = opening::in_done(st);
+        IsDone { number: 0, done }
+    }
+
+    // Whether the gateway's list, once read, lacks the PGN. Refuses with 16.
+    pub fn lacks(self, pgn: u32) -> Lacks
+        ensures { λ r. ⌜ toldLacks r ≡ lackOf self pgn ⌝ }
+    {
+        if !sound::is_sound(self) {
+            return Lacks::Refused(16);
+        }
+        opening::lacking(self.held.known, pgn)
+    }
+}

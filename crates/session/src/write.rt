@@ -1,0 +1,77 @@
+// What a call sends, and how it is written into the lent output.
+use super::Called;
+use super::TxListSync;
+use framing::Encoded;
+ghost use mathlib.Core.Path.{_≡_};
+ghost use Prim.Native.Nat.{_≤_};
+ghost use lib.ListN.{length};
+ghost use Rattle.field.specs.Written.{written};
+ghost use Rattle.session.specs.Sync.{bytesOf, toldCalled, toldStep, wroteStep};
+
+// The commands of one call.
+pub enum Sent {
+    Nothing,
+    ReadF1,
+    ReadF2,
+    Enable(u32),
+    Commit,
+    Activate,
+}
+
+// What a call does: the commands that it sends, and the session after it.
+pub struct Step {
+    pub sent: Sent,
+    pub sync: TxListSync,
+}
+
+pub(crate) fn refused(number: u8, s: TxListSync) -> Called
+    ensures { λ r. ⌜ r ≡ record { number = number; count = 0; sync = s } ⌝ }
+{
+    Called {
+        number,
+        count: 0,
+        sync: s,
+    }
+}
+
+pub(crate) fn stay(s: TxListSync) -> Step
+    ensures { λ r. ⌜ r ≡ record { sent = Sent.Nothing; sync = s } ⌝ }
+{
+    Step {
+        sent: Sent::Nothing,
+        sync: s,
+    }
+}
+
+// The commands written from the start of the output; answers how many bytes.
+fn write_sent(sent: Sent, out: &mut [u8]) -> usize
+    requires { ⌜ 32 ≤ length (now out) ⌝ }
+    ensures { λ r. ⌜ (r ≡ length (bytesOf sent)) × (now (out .exit) ≡ written (bytesOf sent) (now (out .entry))) ⌝ }
+{
+    match sent {
+        Sent::Nothing => 0,
+        Sent::ReadF1 => count_of(commands::encode_read_f1(out)),
+        Sent::ReadF2 => count_of(commands::encode_read_f2(out)),
+        Sent::Enable(pgn) => count_of(commands::encode_enable(pgn, out)),
+        Sent::Commit => count_of(commands::encode_commit(out)),
+        Sent::Activate => count_of(commands::encode_activate(out)),
+    }
+}
+
+fn count_of(e: Encoded) -> usize {
+    e.count()
+}
+
+pub(crate) fn told(step: Step, out: &mut [u8]) -> Called
+    requires { ⌜ 32 ≤ length (now out) ⌝ }
+    ensures { λ r. ⌜ toldCalled r (now (out .exit)) ≡ wroteStep (toldStep step) (now (out .entry)) ⌝ }
+{
+    let sent = step.sent;
+    let sync = step.sync;
+    let count = write_sent(sent, out);
+    Called {
+        number: 0,
+        count,
+        sync,
+    }
+}
