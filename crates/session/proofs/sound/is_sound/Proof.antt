@@ -1,3 +1,8 @@
+use mathlib.Core.Path.{_≡_, ap₂, _∙_}
+use Rattle.bounds.specs.declared.Limits.{Limits}
+use Rattle.bounds.specs.declared.Counts.{Counts}
+use Rattle.bounds.specs.Bounds.{soundAt}
+use Rattle.session.specs.SyncLaws.{sound-same}
 use borrow.Author.Needs.{needs}
 use Rattle.session.proofs.sound.is_sound.Statement.{statement}
 use Rattle.session.proofs.sound.is_sound.Tie as tie
@@ -21,7 +26,10 @@ sound-at-requires c κs = search needs
 
 -- src/sound.rt:40:1
 returns : tie.Need-returns
-returns c = search needs
+returns c =
+    c .sound-at .ensures
+    ∙ ap₂ (λ (l : Limits) (n : Counts). soundAt l n (c .before .before .before .args .s .state)) (c .before .before .helm-limits .ensures) (c .before .counts-of .ensures)
+    ∙ sound-same (c .before .before .before .args .s)
 
 pub is-sound-spec : {M : Type 1} → statement M
 is-sound-spec =

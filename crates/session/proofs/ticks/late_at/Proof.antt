@@ -1,3 +1,12 @@
+use Prim.Native.Nat.{ℕ}
+use mathlib.Core.Path.{_≡_, _∙_, ap, sym}
+use Rattle.tx_list.specs.declared.State.{State}
+use Rattle.tx_list.specs.declared.State.the-variants.{AwaitStartup, Done}
+use Rattle.tx_list.specs.Moves.{late}
+use Rattle.session.specs.declared.TxListSync.{TxListSync}
+use Rattle.session.specs.declared.write.Step.{Step}
+use Rattle.session.specs.declared.write.Sent.the-variants.{Nothing}
+use Rattle.session.specs.Sync.{kind, ofSync, Stepped, toldStep, stepOf}
 use borrow.Author.Needs.{needs}
 use Rattle.session.proofs.ticks.late_at.Statement.{statement}
 use Rattle.session.proofs.ticks.late_at.Tie as tie
@@ -8,6 +17,18 @@ use Rattle.session.proofs.ticks.late_f1.Reads as late-f1-reads
 use Rattle.session.proofs.ticks.late_f2.Reads as late-f2-reads
 use Rattle.session.proofs.ticks.start_read.Reads as start-read-reads
 use Rattle.session.proofs.write.stay.Reads as stay-reads
+
+-- the phase of the arm is the state's
+by-state : (s : TxListSync) (t : ℕ) {st p : State} {r : Stepped} → st ≡ p → r ≡ stepOf (late kind p (ofSync s) t) → r ≡ stepOf (late kind st (ofSync s) t)
+by-state s t e h = h ∙ ap (λ (q : State). stepOf (late kind q (ofSync s) t)) (sym e)
+
+stays-await : (s : TxListSync) (t : ℕ) {r : Step} → r ≡ record { sent = Nothing; sync = s } → toldStep r ≡ stepOf (late kind AwaitStartup (ofSync s) t)
+unfolding late
+stays-await s t e = ap toldStep e
+
+stays-done : (s : TxListSync) (t : ℕ) {r : Step} → r ≡ record { sent = Nothing; sync = s } → toldStep r ≡ stepOf (late kind Done (ofSync s) t)
+unfolding late
+stays-done s t e = ap toldStep e
 
 -- src/ticks.rt:123:32
 enum-told : tie.Need-enum-told
@@ -75,35 +96,38 @@ stay-requires-2 c κs = search needs
 
 -- src/ticks.rt:118:1
 returns : tie.Need-returns
-returns c = search needs
+returns c = by-state (c .before .before .before .args .s) (c .before .before .before .args .time) (c .before .enum-told .given .1) (stays-await (c .before .before .before .args .s) (c .before .before .before .args .time) (c .stay .ensures))
 
 -- src/ticks.rt:118:1
 returns-2 : tie.Need-returns-2
-returns-2 c = search needs
+returns-2 c = by-state (c .before .before .before .args .s) (c .before .before .before .args .time) (c .before .enum-told2 .given .1) (c .start-read .ensures)
 
 -- src/ticks.rt:118:1
 returns-3 : tie.Need-returns-3
-returns-3 c = search needs
+returns-3 c = by-state (c .before .before .before .before .args .s) (c .before .before .before .before .args .time) (c .before .before .st .given .1) (c .late-f1 .ensures)
 
 -- src/ticks.rt:118:1
 returns-4 : tie.Need-returns-4
-returns-4 c = search needs
+returns-4 c = by-state (c .before .before .before .before .args .s) (c .before .before .before .before .args .time) (c .before .before .st2 .given .1) (c .late-f2 .ensures)
 
 -- src/ticks.rt:118:1
 returns-5 : tie.Need-returns-5
-returns-5 c = search needs
+unfolding late
+returns-5 c = by-state (c .before .before .before .args .s) (c .before .before .before .args .time) (c .before .enum-told3 .given .1) (c .finish .ensures)
 
 -- src/ticks.rt:118:1
 returns-6 : tie.Need-returns-6
-returns-6 c = search needs
+unfolding late
+returns-6 c = by-state (c .before .before .before .args .s) (c .before .before .before .args .time) (c .before .enum-told4 .given .1) (c .finish2 .ensures)
 
 -- src/ticks.rt:118:1
 returns-7 : tie.Need-returns-7
-returns-7 c = search needs
+unfolding late
+returns-7 c = by-state (c .before .before .before .args .s) (c .before .before .before .args .time) (c .before .enum-told5 .given .1) (c .finish3 .ensures)
 
 -- src/ticks.rt:118:1
 returns-8 : tie.Need-returns-8
-returns-8 c = search needs
+returns-8 c = by-state (c .before .before .before .args .s) (c .before .before .before .args .time) (c .before .enum-told6 .given .1) (stays-done (c .before .before .before .args .s) (c .before .before .before .args .time) (c .stay2 .ensures))
 
 pub late-at-spec : {M : Type 1} → statement M
 late-at-spec =

@@ -1,3 +1,5 @@
+use borrow.Author.Tests.{lt-ltb, le-ltb}
+use Rattle.tx_list.specs.Moves.{late}
 use borrow.Author.Needs.{needs}
 use Rattle.session.proofs.ticks.late_f1.Statement.{statement}
 use Rattle.session.proofs.ticks.late_f1.Tie as tie
@@ -20,11 +22,13 @@ give-up-requires c κs = search needs
 
 -- src/ticks.rt:95:1
 returns : tie.Need-returns
-returns c = search needs
+unfolding late
+returns c = rw (lt-ltb _ 3 (c .before .if1 .taken)) (c .start-f1 .ensures)
 
 -- src/ticks.rt:95:1
 returns-2 : tie.Need-returns-2
-returns-2 c = search needs
+unfolding late
+returns-2 c = rw (le-ltb _ 3 (c .before .if1 .left)) (c .give-up .ensures)
 
 pub late-f1-spec : {M : Type 1} → statement M
 late-f1-spec =

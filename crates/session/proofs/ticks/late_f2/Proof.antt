@@ -1,3 +1,5 @@
+use borrow.Author.Tests.{lt-ltb, le-ltb}
+use Rattle.tx_list.specs.Moves.{late}
 use borrow.Author.Needs.{needs}
 use Rattle.session.proofs.ticks.late_f2.Statement.{statement}
 use Rattle.session.proofs.ticks.late_f2.Tie as tie
@@ -20,11 +22,13 @@ start-f1-requires c κs = search needs
 
 -- src/ticks.rt:106:1
 returns : tie.Need-returns
-returns c = search needs
+unfolding late
+returns c = rw (lt-ltb _ 3 (c .before .if1 .taken)) (c .start-f2 .ensures)
 
 -- src/ticks.rt:106:1
 returns-2 : tie.Need-returns-2
-returns-2 c = search needs
+unfolding late
+returns-2 c = rw (le-ltb _ 3 (c .before .if1 .left)) (c .start-f1 .ensures)
 
 pub late-f2-spec : {M : Type 1} → statement M
 late-f2-spec =

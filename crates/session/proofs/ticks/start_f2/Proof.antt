@@ -15,7 +15,7 @@ add-h c = search needs
 
 -- src/ticks.rt:32:1
 returns : tie.Need-returns
-returns c = search needs
+returns c = rw (c .new .ensures)
 
 pub start-f2-spec : {M : Type 1} → statement M
 start-f2-spec = tie.close (tie.spec new-requires add-h returns)

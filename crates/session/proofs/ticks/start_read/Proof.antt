@@ -1,3 +1,4 @@
+use Rattle.tx_list.specs.Moves.{late}
 use borrow.Author.Needs.{needs}
 use Rattle.session.proofs.ticks.start_read.Statement.{statement}
 use Rattle.session.proofs.ticks.start_read.Tie as tie
@@ -16,11 +17,13 @@ start-f1-requires c κs = search needs
 
 -- src/ticks.rt:83:1
 returns : tie.Need-returns
-returns c = search needs
+unfolding late
+returns c = rw (c .before .if1 .taken) (c .start-f2 .ensures)
 
 -- src/ticks.rt:83:1
 returns-2 : tie.Need-returns-2
-returns-2 c = search needs
+unfolding late
+returns-2 c = rw (c .before .if1 .left) (c .start-f1 .ensures)
 
 pub start-read-spec : {M : Type 1} → statement M
 start-read-spec = tie.close (tie.spec start-f2-requires start-f1-requires returns returns-2)

@@ -1,3 +1,7 @@
+use mathlib.Core.Path.{ap}
+use borrow.Author.Tests.{le-leb, lt-leb}
+use Rattle.tx_list.specs.Moves.{ticked}
+use Rattle.session.specs.Sync.{toldStep}
 use borrow.Author.Needs.{needs}
 use Rattle.session.proofs.ticks.ticked.Statement.{statement}
 use Rattle.session.proofs.ticks.ticked.Tie as tie
@@ -16,11 +20,13 @@ stay-requires c κs = search needs
 
 -- src/ticks.rt:134:1
 returns : tie.Need-returns
-returns c = search needs
+unfolding ticked
+returns c = rw (le-leb _ _ (c .before .if1 .taken)) (c .late-at .ensures)
 
 -- src/ticks.rt:134:1
 returns-2 : tie.Need-returns-2
-returns-2 c = search needs
+unfolding ticked
+returns-2 c = rw (lt-leb _ _ (c .before .if1 .left)) (ap toldStep (c .stay .ensures))
 
 pub ticked-spec : {M : Type 1} → statement M
 ticked-spec = tie.close (tie.spec late-at-requires stay-requires returns returns-2)
