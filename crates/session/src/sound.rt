@@ -5,6 +5,7 @@ use super::TxListSync;
 use bounds::Counts;
 use bounds::Limits;
 ghost use mathlib.Core.Path.{_≡_};
+ghost use Rattle.tx_list.specs.Memory.{Sized};
 ghost use Rattle.tx_list.specs.Moves.{soundIn};
 ghost use Rattle.session.specs.Sync.{kind, ofSync, recordFits};
 ghost use Rattle.session.specs.Sound.{helm, countsOf};
@@ -36,9 +37,10 @@ fn counts_of(h: Held) -> Counts
     }
 }
 
-// Whether the session is well formed.
+// Whether the session is well formed. Its arrays have their lengths, as those of every session.
 pub(crate) fn is_sound(s: TxListSync) -> bool
     ensures { λ r. ⌜ r ≡ soundIn kind (ofSync s) ⌝ }
+    ensures { λ r. ⌜ Sized kind (ofSync s) ⌝ }
 {
     let st = s.state;
     bounds::sound_at(helm_limits(), counts_of(s.held), st)
