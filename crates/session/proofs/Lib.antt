@@ -1,2 +1,3 @@
 -- Demand 3 and liveness of the session's functions.
 pub mod Demand3
+pub mod CallLaws

@@ -1,0 +1,187 @@
+-- What the exported functions answer, by their verdicts: the laws of tx_list's store at this struct. Assumes nothing.
+use Prim.Native.Nat.{ℕ, _≤_, _<_}
+use mathlib.Core.Path.{_≡_, refl, sym, ap, _∙_}
+use mathlib.Core.Bool.{Bool, true, false, not}
+use mathlib.Core.List.{List, []}
+use lib.Dec.{leb, ltb}
+use lib.ListN.{length}
+use borrow.Author.Tests.{lt-ltb, le-ltb}
+use Rattle.field.specs.Pick.{pick}
+use Rattle.lists.specs.declared.F2List.{F2List}
+use Rattle.tx_list.specs.declared.State.{State}
+use Rattle.tx_list.specs.declared.State.the-variants.{AwaitStartup, ReadAt, ReadingF2, Reading as ReadingF1, Enabling, Committing, Activating, Done}
+use Rattle.tx_list.specs.Reading.{Call, message, tick, firmware, Verdict, taken, refuse, unless, vetMessage, vetTick}
+use Rattle.tx_list.specs.Session.{Record, isDone, allLe, oldBounds, begins, lacks}
+use Rattle.tx_list.specs.Stored as stored
+use Rattle.tx_list.specs.Stored.{Answer, new, again, opens}
+use Rattle.tx_list.specs.Memory.{Flat, Sized, phaseIn, absFlat, writeFlat}
+use Rattle.tx_list.specs.Moves.{Moved, soundIn, fullIn, oldIn, heard, ticked, withFirmware, givesUp, starts′, judgeMessage, judgeTick, judgeState, judgeRestart, told}
+use Rattle.tx_list.proofs.MovesSound.{sound-is}
+use Rattle.tx_list.proofs.MovesLaws.{message-law, tick-law, firmware-law, restart-law, abandon-law, begin-law}
+use Rattle.session.specs.declared.TxListSync.{TxListSync}
+use Rattle.session.specs.declared.Begun.{Begun}
+use Rattle.session.specs.declared.IsDone.{IsDone}
+use Rattle.session.specs.Sync.{kind, store, clear, ofSync, toSync, frameOf, Told, gave, called, begun, setTo, restarted, abandoned, begunWith, sound, doneIn, doneOf, Said, says, refused, lackOf, stepOf, wroteStep}
+
+-- a refusal, and a step taken
+abbrev pub byVerdict : Verdict → TxListSync → Moved F2List ℕ → List ℕ → Told
+byVerdict taken s x out = wroteStep (stepOf x) out
+byVerdict (refuse n) s x out = record { number = n; count = 0; sync = s; out = out }
+
+gave-by : (v : Verdict) (s : TxListSync) (x : Moved F2List ℕ) (out : List ℕ) → gave (told kind store toSync s v x) out ≡ byVerdict v s x out
+gave-by taken s x out = refl
+gave-by (refuse n) s x out = refl
+
+pub tick-by :
+    (s : TxListSync) (t room : ℕ) (out : List ℕ) (v : Verdict)
+    → Sized kind (ofSync s)
+    → judgeTick kind (ofSync s) t room ≡ v
+    → byVerdict v s (ticked kind (ofSync s) t) out ≡ called s (tick t room) out
+tick-by s t room out v z e =
+    sym
+    (ap (λ (a : Answer kind store). gave a out) (tick-law kind TxListSync ofSync toSync clear frameOf s t room z)
+    ∙ gave-by (judgeTick kind (ofSync s) t room) s (ticked kind (ofSync s) t) out
+    ∙ ap (λ (w : Verdict). byVerdict w s (ticked kind (ofSync s) t) out) e)
+
+pub message-by :
+    (s : TxListSync) (t : ℕ) (m : List ℕ) (room : ℕ) (out : List ℕ) (v : Verdict)
+    → Sized kind (ofSync s)
+    → judgeMessage kind (ofSync s) t m room ≡ v
+    → byVerdict v s (heard kind (s .state) (ofSync s) t m) out ≡ called s (message t m room) out
+message-by s t m room out v z e =
+    sym
+    (ap (λ (a : Answer kind store). gave a out) (message-law kind TxListSync ofSync toSync clear frameOf s t m room z)
+    ∙ gave-by (judgeMessage kind (ofSync s) t m room) s (heard kind (s .state) (ofSync s) t m) out
+    ∙ ap (λ (w : Verdict). byVerdict w s (heard kind (s .state) (ofSync s) t m) out) e)
+
+-- the verdicts, by their tests
+
+pub unsound : (y : Bool) (v : Verdict) → y ≡ false → unless (not y) 16 v ≡ refuse 16
+unfolding unless
+unsound y v e = rw e
+
+pub judged : (y : Bool) (v : Verdict) → y ≡ true → unless (not y) 16 v ≡ v
+unfolding unless
+judged y v e = rw e
+
+pub tick-far : (t room : ℕ) → 18446744073709541615 < t → vetTick t room ≡ refuse 13
+unfolding vetTick unless
+tick-far t room h = rw (lt-ltb 18446744073709541615 t h)
+
+pub tick-small : (t room : ℕ) → t ≤ 18446744073709541615 → room < 32 → vetTick t room ≡ refuse 7
+unfolding vetTick unless
+tick-small t room h g = rw (le-ltb 18446744073709541615 t h, lt-ltb room 32 g)
+
+pub tick-taken : (t room : ℕ) → t ≤ 18446744073709541615 → 32 ≤ room → vetTick t room ≡ taken
+unfolding vetTick unless
+tick-taken t room h g = rw (le-ltb 18446744073709541615 t h, le-ltb room 32 g)
+
+module _ (t : ℕ) (m : List ℕ) (room : ℕ) (y : Bool) where
+  pub message-far : 18446744073709541615 < t → vetMessage t m room y ≡ refuse 13
+  unfolding vetMessage unless
+  message-far h = rw (lt-ltb 18446744073709541615 t h)
+
+  pub message-long : t ≤ 18446744073709541615 → 255 < length m → vetMessage t m room y ≡ refuse 6
+  unfolding vetMessage unless
+  message-long h g = rw (le-ltb 18446744073709541615 t h, lt-ltb 255 (length m) g)
+
+  pub message-small : t ≤ 18446744073709541615 → length m ≤ 255 → room < 32 → vetMessage t m room y ≡ refuse 7
+  unfolding vetMessage unless
+  message-small h g k = rw (le-ltb 18446744073709541615 t h, le-ltb 255 (length m) g, lt-ltb room 32 k)
+
+  pub message-full : t ≤ 18446744073709541615 → length m ≤ 255 → 32 ≤ room → y ≡ true → vetMessage t m room y ≡ refuse 14
+  unfolding vetMessage unless
+  message-full h g k e = rw (le-ltb 18446744073709541615 t h, le-ltb 255 (length m) g, le-ltb room 32 k, e)
+
+  pub message-taken : t ≤ 18446744073709541615 → length m ≤ 255 → 32 ≤ room → y ≡ false → vetMessage t m room y ≡ taken
+  unfolding vetMessage unless
+  message-taken h g k e = rw (le-ltb 18446744073709541615 t h, le-ltb 255 (length m) g, le-ltb room 32 k, e)
+
+-- setting firmware, restart, abandon
+
+abbrev pub begunBy : Verdict → TxListSync → Flat F2List ℕ → Begun
+begunBy taken s h = record { number = 0; sync = toSync h }
+begunBy (refuse n) s h = record { number = n; sync = s }
+
+begun-by : (v : Verdict) (s : TxListSync) (x : Moved F2List ℕ) → begun (told kind store toSync s v x) ≡ begunBy v s (x .flat)
+begun-by taken s x = refl
+begun-by (refuse n) s x = refl
+
+abbrev quietly : Flat F2List ℕ → Moved F2List ℕ
+quietly h = record { flat = h; sent = []; handed = [] }
+
+pub firmware-by :
+    (s : TxListSync) (f : ℕ) (v : Verdict)
+    → Sized kind (ofSync s)
+    → judgeState kind (ofSync s) ≡ v
+    → begunBy v s (withFirmware (ofSync s) true f) ≡ setTo s f
+firmware-by s f v z e =
+    sym
+    (ap begun (firmware-law kind TxListSync ofSync toSync clear frameOf s f z)
+    ∙ begun-by (judgeState kind (ofSync s)) s (quietly (withFirmware (ofSync s) true f))
+    ∙ ap (λ (w : Verdict). begunBy w s (withFirmware (ofSync s) true f)) e)
+
+pub abandon-by :
+    (s : TxListSync) (v : Verdict)
+    → Sized kind (ofSync s)
+    → judgeState kind (ofSync s) ≡ v
+    → begunBy v s (givesUp kind (ofSync s) .flat) ≡ abandoned s
+abandon-by s v z e =
+    sym
+    (ap begun (abandon-law kind TxListSync ofSync toSync clear frameOf s z)
+    ∙ begun-by (judgeState kind (ofSync s)) s (givesUp kind (ofSync s))
+    ∙ ap (λ (w : Verdict). begunBy w s (givesUp kind (ofSync s) .flat)) e)
+
+pub restart-by :
+    (s : TxListSync) (v : Verdict)
+    → Sized kind (ofSync s)
+    → judgeRestart kind (ofSync s) ≡ v
+    → begunBy v s (starts′ kind (ofSync s)) ≡ restarted s
+restart-by s v z e =
+    sym
+    (ap begun (restart-law kind TxListSync ofSync toSync clear frameOf s z)
+    ∙ begun-by (judgeRestart kind (ofSync s)) s (quietly (starts′ kind (ofSync s)))
+    ∙ ap (λ (w : Verdict). begunBy w s (starts′ kind (ofSync s))) e)
+
+-- begin
+pub begin-by :
+    (w : List ℕ) (r : Record ℕ) (v : Verdict)
+    → unless (ltb 64 (length w)) 11 (unless (not (allLe (oldBounds kind r))) 12 taken) ≡ v
+    → begunBy v clear (writeFlat (ofSync clear) (begins kind w r)) ≡ begunWith w r
+begin-by w r v e =
+    sym
+    (ap begun (begin-law kind TxListSync ofSync toSync clear frameOf w r)
+    ∙ begun-by (unless (ltb 64 (length w)) 11 (unless (not (allLe (oldBounds kind r))) 12 taken)) clear (quietly (writeFlat (ofSync clear) (begins kind w r)))
+    ∙ ap (λ (x : Verdict). begunBy x clear (writeFlat (ofSync clear) (begins kind w r))) e)
+
+-- is_done and lacks
+
+pub sound-by : (s : TxListSync) → Sized kind (ofSync s) → sound s ≡ soundIn kind (ofSync s)
+sound-by s z = sound-is kind (ofSync s) z
+
+done-in : (st : State) (h : Flat F2List ℕ) → isDone (phaseIn st h) ≡ doneIn st
+unfolding isDone
+done-in AwaitStartup h = refl
+done-in ReadAt h = refl
+done-in (ReadingF2 a) h = refl
+done-in (ReadingF1 a) h = refl
+done-in Enabling h = refl
+done-in Committing h = refl
+done-in Activating h = refl
+done-in Done h = refl
+
+pub done-unsound : (s : TxListSync) → Sized kind (ofSync s) → soundIn kind (ofSync s) ≡ false → record { number = 16; done = false } ≡ doneOf s
+done-unsound s z e =
+    sym
+    (ap (λ (y : Bool). pick {A = IsDone} y (record { number = 0; done = isDone (absFlat (ofSync s) .phase) }) (record { number = 16; done = false }))
+    (sound-by s z ∙ e))
+
+pub done-sound : (s : TxListSync) → Sized kind (ofSync s) → soundIn kind (ofSync s) ≡ true → record { number = 0; done = doneIn (s .state) } ≡ doneOf s
+done-sound s z e =
+    sym
+    (ap (λ (y : Bool). pick {A = IsDone} y (record { number = 0; done = isDone (absFlat (ofSync s) .phase) }) (record { number = 16; done = false }))
+    (sound-by s z ∙ e)
+    ∙ ap {B = IsDone} (λ (y : Bool). record { number = 0; done = y }) (done-in (s .state) (ofSync s)))
+
+pub lacks-by : (s : TxListSync) (p : ℕ) (y : Bool) → Sized kind (ofSync s) → soundIn kind (ofSync s) ≡ y → lackOf s p ≡ pick y (says (lacks (absFlat (ofSync s) .known) p)) (refused 16)
+lacks-by s p y z e = ap (λ (x : Bool). pick x (says (lacks (absFlat (ofSync s) .known) p)) (refused 16)) (sound-by s z ∙ e)
