@@ -1,16 +1,13 @@
-use Rattle.tx_list.specs.Moves.{committed}
-use mathlib.Core.Path.{_≡_, refl, ap, sym, _∙_}
+-- `session::answers::activate` meets its contract. Assumes nothing.
+use mathlib.Core.Path.{refl}
 use borrow.Author.Needs.{needs}
+use Rattle.tx_list.specs.Moves.{committed}
 use Rattle.session.proofs.answers.activate.Statement.{statement}
 use Rattle.session.proofs.answers.activate.Tie as tie
-use Rattle.session.proofs.answers.activate.Reads as reads
-use Rattle.session.proofs.answers.activate.Lts as lts
 
--- src/answers.rt:216:18
 add-h : tie.Need-add-h
 add-h c = search needs
 
--- src/answers.rt:211:1
 returns : tie.Need-returns
 unfolding committed
 returns c = refl

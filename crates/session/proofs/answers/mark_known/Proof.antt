@@ -1,13 +1,11 @@
-use mathlib.Core.Path.{_≡_, refl, _∙_}
+-- `session::answers::mark_known` meets its contract. Assumes nothing.
+use mathlib.Core.Path.{_≡_}
 use mathlib.Core.Logic.{⊎-elim}
+use borrow.Author.Needs.{needs}
 use Rattle.tx_list.specs.Views.{isGood}
 use Rattle.views.specs.Told.{toldResult}
-use borrow.Author.Needs.{needs}
 use Rattle.session.proofs.answers.mark_known.Statement.{statement}
 use Rattle.session.proofs.answers.mark_known.Tie as tie
-use Rattle.session.proofs.answers.mark_known.Reads as reads
-use Rattle.session.proofs.answers.mark_known.Lts as lts
-use Rattle.pgns.proofs.has.Reads as has-reads
 
 good-is : (c : tie.At-match-came) → c .match .good ≡ isGood (toldResult (c .before .args .a))
 unfolding isGood
@@ -16,39 +14,30 @@ good-is c =
     (λ x. ⊎-elim (λ y. rw (y .1 .given .1) (y .2)) (λ y. rw (y .1 .given .1) (y .2)) x)
     (c .match .came)
 
--- src/answers.rt:49:30
 enum-told : tie.Need-enum-told
 enum-told c = search needs
 
--- src/answers.rt:50:34
 enum-told-2 : tie.Need-enum-told-2
 enum-told-2 c = search needs
 
--- src/answers.rt:51:34
 enum-told-3 : tie.Need-enum-told-3
 enum-told-3 c = search needs
 
--- src/answers.rt:54:9
 has-requires : tie.Need-has-requires
 has-requires c κs = search needs
 
--- src/answers.rt:57:9
 mul-l : tie.Need-mul-l
 mul-l c = search needs
 
--- src/answers.rt:57:9
 element-write-l : tie.Need-element-write-l
 element-write-l c = search needs
 
--- src/answers.rt:58:15
 add-l : tie.Need-add-l
 add-l c = search needs
 
--- src/answers.rt:44:1
 returns : tie.Need-returns
 returns c = rw (← good-is (c .before .before .before .before .before .before), ← c .before .before .has .ensures, c .before .if1 .taken)
 
--- src/answers.rt:44:1
 returns-2 : tie.Need-returns-2
 returns-2 c = rw (← good-is (c .before .before .before .before .before), ← c .before .has .ensures, c .if1 .left)
 

@@ -1,42 +1,32 @@
-use Rattle.tx_list.specs.Views.{isThere, isDenied}
+-- `session::answers::mark_record` meets its contract. Assumes nothing.
 use borrow.Author.Needs.{needs}
+use Rattle.tx_list.specs.Views.{isThere, isDenied}
 use Rattle.session.proofs.answers.mark_record.Statement.{statement}
 use Rattle.session.proofs.answers.mark_record.Tie as tie
-use Rattle.session.proofs.answers.mark_record.Reads as reads
-use Rattle.session.proofs.answers.mark_record.Lts as lts
-use Rattle.session.proofs.answers.push256.Reads as push256-reads
 
--- src/answers.rt:75:30
 enum-told : tie.Need-enum-told
 enum-told c = search needs
 
--- src/answers.rt:77:17
 enum-told-2 : tie.Need-enum-told-2
 enum-told-2 c = search needs
 
--- src/answers.rt:78:17
 push256-requires : tie.Need-push256-requires
 push256-requires c κs = search needs
 
--- src/answers.rt:83:17
 enum-told-3 : tie.Need-enum-told-3
 enum-told-3 c = search needs
 
--- src/answers.rt:84:17
 push256-requires-2 : tie.Need-push256-requires-2
 push256-requires-2 c κs = search needs
 
--- src/answers.rt:70:1
 returns : tie.Need-returns
 unfolding isThere isDenied
 returns c = rw (c .enum-told .given .1)
 
--- src/answers.rt:70:1
 returns-2 : tie.Need-returns-2
 unfolding isThere isDenied
 returns-2 c = rw (c .before .enum-told2 .given .1, c .push256 .ensures)
 
--- src/answers.rt:70:1
 returns-3 : tie.Need-returns-3
 unfolding isThere isDenied
 returns-3 c = rw (c .before .enum-told3 .given .1, c .push2562 .ensures)
