@@ -4,3 +4,4 @@ pub mod Sound
 pub mod SyncLaws
 pub mod Played
 pub mod WriteLaws
+pub mod OpeningLaws
