@@ -4,3 +4,5 @@ pub mod Sound
 pub mod SyncLaws
 pub mod Played
 pub mod AnswersLaws
+pub mod WriteLaws
+pub mod OpeningLaws

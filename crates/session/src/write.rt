@@ -6,6 +6,7 @@ ghost use mathlib.Core.Path.{_≡_};
 ghost use Prim.Native.Nat.{_≤_};
 ghost use lib.ListN.{length};
 ghost use Rattle.field.specs.Written.{written};
+ghost use Rattle.framing.specs.Encode.{countOf};
 ghost use Rattle.session.specs.Sync.{bytesOf, toldCalled, toldStep, wroteStep};
 
 // The commands of one call.
@@ -58,7 +59,9 @@ fn write_sent(sent: Sent, out: &mut [u8]) -> usize
     }
 }
 
-fn count_of(e: Encoded) -> usize {
+fn count_of(e: Encoded) -> usize
+    ensures { λ r. ⌜ r ≡ countOf e ⌝ }
+{
     e.count()
 }
 

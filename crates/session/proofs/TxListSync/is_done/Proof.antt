@@ -1,0 +1,26 @@
+use borrow.Author.Needs.{needs}
+use Rattle.session.proofs.TxListSync.is_done.Statement.{statement}
+use Rattle.session.proofs.TxListSync.is_done.Tie as tie
+use Rattle.session.proofs.TxListSync.is_done.Reads as reads
+use Rattle.session.proofs.TxListSync.is_done.Lts as lts
+use Rattle.session.proofs.opening.in_done.Reads as in-done-reads
+use Rattle.session.proofs.sound.is_sound.Reads as is-sound-reads
+
+-- src/lib.rt:160:13
+is-sound-requires : tie.Need-is-sound-requires
+is-sound-requires c κs = search needs
+
+-- src/lib.rt:161:13
+returns : tie.Need-returns
+returns c = search needs
+
+-- src/lib.rt:167:13
+in-done-requires : tie.Need-in-done-requires
+in-done-requires c κs = search needs
+
+-- src/lib.rt:157:5
+returns-2 : tie.Need-returns-2
+returns-2 c = search needs
+
+pub is-done-spec : {M : Type 1} → statement M
+is-done-spec = tie.close (tie.spec is-sound-requires returns in-done-requires returns-2)
