@@ -3,3 +3,4 @@ pub mod Sync
 pub mod Sound
 pub mod SyncLaws
 pub mod Played
+pub mod ReadingLaws
