@@ -6,3 +6,4 @@ pub mod Played
 pub mod AnswersLaws
 pub mod WriteLaws
 pub mod OpeningLaws
+pub mod ReadingLaws

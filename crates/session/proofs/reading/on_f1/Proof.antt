@@ -1,0 +1,68 @@
+-- `session::reading::on_f1` meets its contract. Assumes nothing.
+use mathlib.Core.Path.{ap, _∙_}
+use borrow.Author.Needs.{needs}
+use Rattle.views.specs.declared.F1Kind.the-variants.{Adds, Ends, Neither}
+use Rattle.tx_list.specs.Moves.{inF1}
+use Rattle.session.specs.Sync.{ofSync, toldStep}
+use Rattle.session.specs.ReadingLaws.{adds-fit, in-f1}
+use Rattle.session.proofs.reading.on_f1.Statement.{statement}
+use Rattle.session.proofs.reading.on_f1.Tie as tie
+
+f1-kind-requires : tie.Need-f1-kind-requires
+f1-kind-requires c κs = search needs
+
+enum-told : tie.Need-enum-told
+enum-told c = search needs
+
+add-f1-requires : tie.Need-add-f1-requires
+add-f1-requires c κs =
+    let s = c .before .before .before .before in (
+      s .pre .0 .0,
+      adds-fit (s .args .payload .now) (c .before .before .f1-kind .ensures) (s .args .s .held .list .n) (c .enum-told .given .1) (s .pre .1),
+    )
+
+enum-told-2 : tie.Need-enum-told-2
+enum-told-2 c = search needs
+
+end-f1-requires : tie.Need-end-f1-requires
+end-f1-requires c κs = search needs
+
+enum-told-3 : tie.Need-enum-told-3
+enum-told-3 c = search needs
+
+stay-requires : tie.Need-stay-requires
+stay-requires c κs = search needs
+
+returns : tie.Need-returns
+unfolding inF1
+returns c =
+    let a = c .before .before .before .before .before .args in
+    c .add-f1 .ensures ∙ in-f1 (a .payload .now) (c .before .before .before .f1-kind .ensures) Adds (ofSync (a .s)) (a .time) (c .before .enum-told .given .1)
+
+returns-2 : tie.Need-returns-2
+unfolding inF1
+returns-2 c =
+    let a = c .before .before .before .before .before .args in
+    c .end-f1 .ensures ∙ in-f1 (a .payload .now) (c .before .before .before .f1-kind .ensures) Ends (ofSync (a .s)) (a .time) (c .before .enum-told2 .given .1)
+
+returns-3 : tie.Need-returns-3
+unfolding inF1
+returns-3 c =
+    let a = c .before .before .before .before .before .args in
+    ap toldStep (c .stay .ensures)
+    ∙ in-f1 (a .payload .now) (c .before .before .before .f1-kind .ensures) Neither (ofSync (a .s)) (a .time) (c .before .enum-told3 .given .1)
+
+pub on-f1-spec : {M : Type 1} → statement M
+on-f1-spec =
+    tie.close
+    (tie.spec
+    f1-kind-requires
+    enum-told
+    add-f1-requires
+    enum-told-2
+    end-f1-requires
+    enum-told-3
+    stay-requires
+    returns
+    returns-2
+    returns-3)

@@ -1,0 +1,47 @@
+-- `session::reading::put_part` meets its contract. Assumes nothing.
+use Prim.Native.Nat.{ℕ}
+use mathlib.Core.Path.{ap, _∙_}
+use mathlib.Core.Bool.{true, false}
+use mathlib.Core.List.{List}
+use borrow.Author.Needs.{needs}
+use Rattle.lists.specs.Format2.{addSupported, addEnabled}
+use Rattle.session.specs.ReadingLaws.{put-as}
+use Rattle.session.proofs.reading.put_part.Statement.{statement}
+use Rattle.session.proofs.reading.put_part.Tie as tie
+
+data-of-requires : tie.Need-data-of-requires
+data-of-requires c κs = search needs
+
+starts-requires : tie.Need-starts-requires
+starts-requires c κs = search needs
+
+add-supported-requires : tie.Need-add-supported-requires
+add-supported-requires c κs = search needs
+
+add-enabled-requires : tie.Need-add-enabled-requires
+add-enabled-requires c κs = search needs
+
+returns : tie.Need-returns
+returns c =
+    let a = c .before .before .before .before .before .args in
+    c .add-supported .ensures
+    ∙ ap (λ (d : List ℕ). addSupported d (a .f2)) (c .before .before .before .data-of .ensures)
+    ∙ put-as (a .payload .now) (a .f2) true (c .before .before .starts .ensures) (c .before .if1 .taken)
+
+returns-2 : tie.Need-returns-2
+returns-2 c =
+    let a = c .before .before .before .before .before .args in
+    c .add-enabled .ensures
+    ∙ ap (λ (d : List ℕ). addEnabled d (a .f2)) (c .before .before .before .data-of .ensures)
+    ∙ put-as (a .payload .now) (a .f2) false (c .before .before .starts .ensures) (c .before .if1 .left)
+
+pub put-part-spec : {M : Type 1} → statement M
+put-part-spec =
+    tie.close
+    (tie.spec
+    data-of-requires
+    starts-requires
+    add-supported-requires
+    add-enabled-requires
+    returns
+    returns-2)
