@@ -7,12 +7,14 @@ use mathlib.Core.Bool.{Bool, true, false, not, _&&_}
 use mathlib.Core.List.{List, [], _∷_, _++_, map, append-nil, append-assoc}
 use borrow.Author.Tests.{le-leb, lt-leb, leb-true, leb-false}
 use lib.Dec.{leb}
-use lib.ListN.{length, drop, length-append}
+use lib.ListN.{length, take, drop, length-append}
 use lib.Seq.{sets, length-sets, drop-append-add, drop-drop}
 use Rattle.field.specs.Pick.{pick}
 use Rattle.field.specs.WrittenLaws.{sets-written}
 use Rattle.tx_list.specs.Views.{has, only, note, notes, least}
 use Rattle.tx_list.specs.Session.{Record, owed}
+use Rattle.tx_list.specs.Memory.{Buf, fill}
+use Rattle.pgns.specs.Lists.{told, noted, owedIn}
 
 -- A PGN alone, or nothing
 
@@ -105,3 +107,18 @@ owed-length g [] l r = omega arith
 owed-length g (p ∷ ps) l r =
     rw length-append
     (omega (arith, only-length (not (has p l) && not (has p (r .present)) && not (has p (map g (r .refused)))) p, owed-length g ps l r))
+
+-- What a caller learns where there is room
+
+pub noted-said : {r : ℕ} {x : List ℕ} (l ps : List ℕ) (n m : ℕ) → n + m ≤ length l → told r x ≡ noted l n ps m
+    → (r ≡ length (notes (take n l) (take m ps))) × (x ≡ sets l 0 (notes (take n l) (take m ps)))
+unfolding noted
+noted-said l ps n m h e =
+    let q = e ∙ ap (λ (t : Bool). pick t (fill (told n l) (notes (take n l) (take m ps))) (told n l)) (le-leb (n + m) (length l) h) in
+    (ap (λ (b : Buf ℕ). b .n) q, ap (λ (b : Buf ℕ). b .items) q)
+
+pub owed-said : {r : ℕ} {x : List ℕ} (l o : List ℕ) (w : ℕ) → w ≤ length l → told r x ≡ owedIn l w o → (r ≡ length o) × (x ≡ sets l 0 o)
+unfolding owedIn
+owed-said l o w h e =
+    let q = e ∙ ap (λ (t : Bool). pick t (fill (told 0 l) o) (told 0 l)) (le-leb w (length l) h) in
+    (ap (λ (b : Buf ℕ). b .n) q, ap (λ (b : Buf ℕ). b .items) q)
