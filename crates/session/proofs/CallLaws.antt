@@ -1,7 +1,7 @@
 -- What the exported functions answer, by their verdicts: the laws of tx_list's store at this struct. Assumes nothing.
 use Prim.Native.Nat.{ℕ, _≤_, _<_}
 use mathlib.Core.Path.{_≡_, refl, sym, ap, _∙_}
-use mathlib.Core.Bool.{Bool, true, false, not}
+use mathlib.Core.Bool.{Bool, true, false, not, _&&_}
 use mathlib.Core.List.{List, []}
 use lib.Dec.{leb, ltb}
 use lib.ListN.{length}
@@ -21,7 +21,8 @@ use Rattle.tx_list.proofs.MovesLaws.{message-law, tick-law, firmware-law, resta
 use Rattle.session.specs.declared.TxListSync.{TxListSync}
 use Rattle.session.specs.declared.Begun.{Begun}
 use Rattle.session.specs.declared.IsDone.{IsDone}
-use Rattle.session.specs.Sync.{kind, store, clear, ofSync, toSync, frameOf, Told, gave, called, begun, setTo, restarted, abandoned, begunWith, sound, doneIn, doneOf, Said, says, refused, lackOf, stepOf, wroteStep}
+use Rattle.session.specs.declared.TxListRecord.{TxListRecord}
+use Rattle.session.specs.Sync.{kind, store, clear, ofSync, toSync, frameOf, Told, gave, called, begun, setTo, restarted, abandoned, begunWith, sound, recordFits, doneIn, doneOf, Said, says, refused, lackOf, stepOf, wroteStep}
 
 -- a refusal, and a step taken
 abbrev pub byVerdict : Verdict → TxListSync → Moved F2List ℕ → List ℕ → Told
@@ -185,3 +186,27 @@ done-sound s z e =
 
 pub lacks-by : (s : TxListSync) (p : ℕ) (y : Bool) → Sized kind (ofSync s) → soundIn kind (ofSync s) ≡ y → lackOf s p ≡ pick y (says (lacks (absFlat (ofSync s) .known) p)) (refused 16)
 lacks-by s p y z e = ap (λ (x : Bool). pick x (says (lacks (absFlat (ofSync s) .known) p)) (refused 16)) (sound-by s z ∙ e)
+
+-- 12, by the counts of the record
+
+and-true : (a : Bool) → (a && true) ≡ a
+and-true true = refl
+and-true false = refl
+
+and-assoc : (a b c : Bool) → ((a && b) && c) ≡ (a && (b && c))
+and-assoc true b c = refl
+and-assoc false b c = refl
+
+old-same : (r : TxListRecord) → recordFits r ≡ ((leb (r .saved .n) 192) && ((leb (r .present .n) 192) && ((leb (r .refused .n) 192) && true)))
+old-same r = simp (and-assoc, and-true)
+
+abbrev pub oldTest : TxListRecord → Verdict
+oldTest r = unless (not ((leb (r .saved .n) 192) && ((leb (r .present .n) 192) && ((leb (r .refused .n) 192) && true)))) 12 taken
+
+pub record-over : (r : TxListRecord) → recordFits r ≡ false → oldTest r ≡ refuse 12
+unfolding unless
+record-over r e = ap (λ (y : Bool). unless (not y) 12 taken) (sym (old-same r) ∙ e)
+
+pub record-within : (r : TxListRecord) → recordFits r ≡ true → oldTest r ≡ taken
+unfolding unless
+record-within r e = ap (λ (y : Bool). unless (not y) 12 taken) (sym (old-same r) ∙ e)

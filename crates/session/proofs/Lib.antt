@@ -1,3 +1,4 @@
 -- Demand 3 and liveness of the session's functions.
 pub mod Demand3
 pub mod CallLaws
+pub mod HeardLaws

@@ -1,3 +1,9 @@
+use mathlib.Core.Path.{_≡_, sym, _∙_, ap}
+use borrow.Author.Tests.{not-true, not-false}
+use Rattle.tx_list.specs.Reading.{taken, refuse}
+use Rattle.session.specs.declared.Begun.{Begun}
+use Rattle.session.specs.Sync.{Stepped}
+use Rattle.session.proofs.CallLaws.{abandon-by, unsound, judged}
 use borrow.Author.Needs.{needs}
 use Rattle.session.proofs.TxListSync.abandon.Statement.{statement}
 use Rattle.session.proofs.TxListSync.abandon.Tie as tie
@@ -12,7 +18,10 @@ is-sound-requires c κs = search needs
 
 -- src/lib.rt:146:13
 returns : tie.Need-returns
-returns c = search needs
+returns c =
+    let a = c .before in
+    abandon-by (a .before .args .self) (refuse 16) (a .is-sound .ensures .1)
+    (unsound _ taken (sym (a .is-sound .ensures .0) ∙ not-true _ (c .if1 .taken)))
 
 -- src/lib.rt:151:13
 give-up-requires : tie.Need-give-up-requires
@@ -20,7 +29,11 @@ give-up-requires c κs = search needs
 
 -- src/lib.rt:142:5
 returns-2 : tie.Need-returns-2
-returns-2 c = search needs
+returns-2 c =
+    let a = c .before .before .before in
+    ap {B = Begun} (λ (x : Stepped). record { number = 0; sync = x .sync }) (c .before .give-up .ensures)
+    ∙ abandon-by (a .before .args .self) taken (a .is-sound .ensures .1)
+    (judged _ taken (sym (a .is-sound .ensures .0) ∙ not-false _ (c .before .before .if1 .left)))
 
 pub abandon-spec : {M : Type 1} → statement M
 abandon-spec = tie.close (tie.spec is-sound-requires returns give-up-requires returns-2)

@@ -1,3 +1,7 @@
+use mathlib.Core.Path.{_≡_, sym, _∙_, ap}
+use borrow.Author.Tests.{not-true, not-false}
+use mathlib.Core.Bool.{true, false}
+use Rattle.session.proofs.CallLaws.{lacks-by}
 use borrow.Author.Needs.{needs}
 use Rattle.session.proofs.TxListSync.lacks.Statement.{statement}
 use Rattle.session.proofs.TxListSync.lacks.Tie as tie
@@ -12,7 +16,9 @@ is-sound-requires c κs = search needs
 
 -- src/lib.rt:208:13
 returns : tie.Need-returns
-returns c = search needs
+returns c =
+    let a = c .before in
+    sym (lacks-by (a .before .args .self) (a .before .args .pgn) false (a .is-sound .ensures .1) (sym (a .is-sound .ensures .0) ∙ not-true _ (c .if1 .taken)))
 
 -- src/lib.rt:210:9
 lacking-requires : tie.Need-lacking-requires
@@ -20,7 +26,10 @@ lacking-requires c κs = search needs
 
 -- src/lib.rt:204:5
 returns-2 : tie.Need-returns-2
-returns-2 c = search needs
+returns-2 c =
+    let a = c .before .before in
+    c .lacking .ensures
+    ∙ sym (lacks-by (a .before .args .self) (a .before .args .pgn) true (a .is-sound .ensures .1) (sym (a .is-sound .ensures .0) ∙ not-false _ (c .before .if1 .left)))
 
 pub lacks-spec : {M : Type 1} → statement M
 lacks-spec = tie.close (tie.spec is-sound-requires returns lacking-requires returns-2)

@@ -1,0 +1,83 @@
+-- What a well formed state leaves room for, phase by phase, and a message's step by phase. Assumes nothing.
+use Prim.Native.Nat.{ℕ, _+_, _≤_, _<_}
+use native.Mathlib.Omega.{arith}
+use mathlib.Core.Path.{_≡_, refl, sym, ap, _∙_, subst}
+use mathlib.Core.Bool.{Bool, true, false, _&&_}
+use mathlib.Core.List.{List}
+use borrow.Author.Tests.{ltb-true}
+use Rattle.lists.specs.declared.F2List.{F2List}
+use Rattle.lists.specs.Format2.{formed}
+use Rattle.tx_list.specs.declared.State.{State}
+use Rattle.tx_list.specs.declared.State.the-variants.{ReadAt, ReadingF2, Reading as ReadingF1, Enabling, Committing, Activating, Done}
+use Rattle.tx_list.specs.Views.{f1Of, f2Of}
+use Rattle.tx_list.specs.Session.{allLe, AllLe, knownMax}
+use Rattle.tx_list.specs.Memory.{counts}
+use Rattle.tx_list.specs.Moves.{formatIn, owesIn, sumsIn, soundIn, fullIn, inF1, inF2, heard}
+use Rattle.tx_list.proofs.MemoryLists.{left-true}
+use Rattle.tx_list.proofs.MovesSound.{sound-counts, sound-owes, sound-sums}
+use Rattle.session.specs.declared.TxListSync.{TxListSync}
+use Rattle.session.specs.declared.write.Step.{Step}
+use Rattle.session.specs.declared.write.Sent.the-variants.{Nothing}
+use Rattle.session.specs.Sync.{kind, ofSync, overList, Stepped, toldStep, stepOf}
+
+module _ (s : TxListSync) (e : soundIn kind (ofSync s) ≡ true) where
+  pub within : AllLe (counts kind (ofSync s))
+  within = sound-counts kind (ofSync s) e
+
+  pub parts-formed : formed (s .held .f2) ≡ true
+  unfolding soundIn
+  parts-formed =
+      left-true (formed (s .held .f2)) (allLe (counts kind (ofSync s)))
+      (left-true (formed (s .held .f2) && allLe (counts kind (ofSync s)))
+      (formatIn true (s .state) && (owesIn (s .state) (s .held .owed .n) && allLe (sumsIn kind (s .state) (ofSync s))))
+      e)
+
+  pub enabling-room :
+      s .state ≡ Enabling
+      → (s .held .owed .n ≤ 64)
+      × (s .held .known .list .n < 1344)
+      × (s .held .learned .present .n < 256)
+      × (s .held .learned .refused .n < 256)
+      × (s .held .fresh .n < 64)
+  unfolding knownMax
+  enabling-room q =
+      let o : owesIn Enabling (s .held .owed .n) ≡ true = subst (λ (st : State). owesIn st (s .held .owed .n) ≡ true) q (sound-owes kind (ofSync s) e) in
+      let u : AllLe (sumsIn kind Enabling (ofSync s)) = subst (λ (st : State). AllLe (sumsIn kind st (ofSync s))) q (sound-sums kind (ofSync s) e) in
+      let n : 0 < s .held .owed .n = ltb-true 0 (s .held .owed .n) o in
+      let w : AllLe (counts kind (ofSync s)) = within in
+      (omega arith, omega arith, omega arith, omega arith, omega arith)
+
+  pub activating-room :
+      s .state ≡ Activating → (s .held .learned .saved .n + s .held .fresh .n ≤ 256) × (s .held .fresh .n ≤ 64)
+  activating-room q =
+      let u : AllLe (sumsIn kind Activating (ofSync s)) = subst (λ (st : State). AllLe (sumsIn kind st (ofSync s))) q (sound-sums kind (ofSync s) e) in
+      let w : AllLe (counts kind (ofSync s)) = within in
+      (omega arith, omega arith)
+
+-- 14, while Format 1 is read
+pub not-over : (s : TxListSync) (m : List ℕ) {a : ℕ} → s .state ≡ ReadingF1 a → fullIn kind (s .state) (ofSync s) m ≡ false → overList (s .held .list .n) m ≡ false
+not-over s m {a} q e = ap (λ (st : State). fullIn kind st (ofSync s) m) (sym q) ∙ e
+
+-- the phase of an arm is the state's
+pub by-state :
+    (s : TxListSync) (t : ℕ) (m : List ℕ) {p : State} {r : Stepped}
+    → s .state ≡ p
+    → r ≡ stepOf (heard kind p (ofSync s) t m)
+    → r ≡ stepOf (heard kind (s .state) (ofSync s) t m)
+by-state s t m e h = h ∙ ap (λ (q : State). stepOf (heard kind q (ofSync s) t m)) (sym e)
+
+pub stays-waiting : (s : TxListSync) (t : ℕ) (m : List ℕ) {r : Step} → r ≡ record { sent = Nothing; sync = s } → toldStep r ≡ stepOf (heard kind ReadAt (ofSync s) t m)
+unfolding heard
+stays-waiting s t m e = ap toldStep e
+
+pub stays-done : (s : TxListSync) (t : ℕ) (m : List ℕ) {r : Step} → r ≡ record { sent = Nothing; sync = s } → toldStep r ≡ stepOf (heard kind Done (ofSync s) t m)
+unfolding heard
+stays-done s t m e = ap toldStep e
+
+pub hears-f1 : (s : TxListSync) (t : ℕ) (m : List ℕ) (a : ℕ) {r : Stepped} → r ≡ stepOf (inF1 kind (f1Of m) (ofSync s) t) → r ≡ stepOf (heard kind (ReadingF1 a) (ofSync s) t m)
+unfolding heard
+hears-f1 s t m a e = e
+
+pub hears-f2 : (s : TxListSync) (t : ℕ) (m : List ℕ) (a : ℕ) {r : Stepped} → r ≡ stepOf (inF2 kind (f2Of m) (ofSync s) t m) → r ≡ stepOf (heard kind (ReadingF2 a) (ofSync s) t m)
+unfolding heard
+hears-f2 s t m a e = e
