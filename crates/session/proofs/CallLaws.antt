@@ -4,8 +4,10 @@ use mathlib.Core.Path.{_≡_, refl, sym, ap, _∙_}
 use mathlib.Core.Bool.{Bool, true, false, not, _&&_}
 use mathlib.Core.List.{List, []}
 use lib.Dec.{leb, ltb}
-use lib.ListN.{length}
-use borrow.Author.Tests.{lt-ltb, le-ltb}
+use lib.ListN.{length, take}
+use native.Mathlib.Omega.{arith}
+use borrow.Author.Tests.{lt-ltb, le-ltb, lt-leb, leb-true, leb-false}
+use lib.Seq.{length-take-le, take-all}
 use Rattle.field.specs.Pick.{pick}
 use Rattle.lists.specs.declared.F2List.{F2List}
 use Rattle.tx_list.specs.declared.State.{State}
@@ -16,13 +18,14 @@ use Rattle.tx_list.specs.Stored as stored
 use Rattle.tx_list.specs.Stored.{Answer, new, again, opens}
 use Rattle.tx_list.specs.Memory.{Flat, Sized, phaseIn, absFlat, writeFlat}
 use Rattle.tx_list.specs.Moves.{Moved, soundIn, fullIn, oldIn, heard, ticked, withFirmware, givesUp, starts′, judgeMessage, judgeTick, judgeState, judgeRestart, told}
+use Rattle.tx_list.proofs.MemoryLists.{left-true, right-true}
 use Rattle.tx_list.proofs.MovesSound.{sound-is}
 use Rattle.tx_list.proofs.MovesLaws.{message-law, tick-law, firmware-law, restart-law, abandon-law, begin-law}
 use Rattle.session.specs.declared.TxListSync.{TxListSync}
 use Rattle.session.specs.declared.Begun.{Begun}
 use Rattle.session.specs.declared.IsDone.{IsDone}
 use Rattle.session.specs.declared.TxListRecord.{TxListRecord}
-use Rattle.session.specs.Sync.{kind, store, clear, ofSync, toSync, frameOf, Told, gave, called, begun, setTo, restarted, abandoned, begunWith, sound, recordFits, doneIn, doneOf, Said, says, refused, lackOf, stepOf, wroteStep}
+use Rattle.session.specs.Sync.{kind, store, clear, ofSync, toSync, frameOf, Told, gave, called, begun, setTo, restarted, abandoned, begunWith, recordOf, sound, recordFits, doneIn, doneOf, Said, says, refused, lackOf, stepOf, wroteStep}
 
 -- a refusal, and a step taken
 abbrev pub byVerdict : Verdict → TxListSync → Moved F2List ℕ → List ℕ → Told
@@ -210,3 +213,50 @@ record-over r e = ap (λ (y : Bool). unless (not y) 12 taken) (sym (old-same r) 
 pub record-within : (r : TxListRecord) → recordFits r ≡ true → oldTest r ≡ taken
 unfolding unless
 record-within r e = ap (λ (y : Bool). unless (not y) 12 taken) (sym (old-same r) ∙ e)
+
+-- begin: 11, 12, by the number wanted and the counts of the record
+
+take-leb : (l : List ℕ) (n : ℕ) → length l ≡ 256 → leb (length (take n l)) 192 ≡ leb n 192
+take-leb l n e = go (leb n 256) refl
+  where
+    go : (y : Bool) → leb n 256 ≡ y → leb (length (take n l)) 192 ≡ leb n 192
+    go true h = ap (λ (k : ℕ). leb k 192) (length-take-le n l (omega (arith, leb-true n 256 h)))
+    go false h =
+        ap (λ (k : List ℕ). leb (length k) 192) (take-all n l (omega (arith, leb-false n 256 h)))
+        ∙ ap (λ (k : ℕ). leb k 192) e
+        ∙ sym (lt-leb n 192 (omega (arith, leb-false n 256 h)))
+
+pub record LearnedSized (r : TxListRecord) : Type 0 where
+  pub saved-256 : length (r .saved .pgns) ≡ 256
+  pub present-256 : length (r .present .pgns) ≡ 256
+  pub refused-256 : length (r .refused .pgns) ≡ 256
+
+old-lists : (r : TxListRecord) → LearnedSized r → allLe (oldBounds kind (recordOf r)) ≡ recordFits r
+old-lists r z =
+    (λ i.
+    take-leb (r .saved .pgns) (r .saved .n) (z .saved-256) i
+    && (take-leb (r .present .pgns) (r .present .n) (z .present-256) i && (take-leb (r .refused .pgns) (r .refused .n) (z .refused-256) i && true)))
+    ∙ sym (old-same r)
+
+abbrev pub beginTest : List ℕ → TxListRecord → Verdict
+beginTest w r = unless (ltb 64 (length w)) 11 (unless (not (allLe (oldBounds kind (recordOf r)))) 12 taken)
+
+pub begin-over : (w : List ℕ) (r : TxListRecord) → 64 < length w → beginTest w r ≡ refuse 11
+unfolding unless
+begin-over w r h = rw (lt-ltb 64 (length w) h)
+
+pub begin-record : (w : List ℕ) (r : TxListRecord) → LearnedSized r → length w ≤ 64 → recordFits r ≡ false → beginTest w r ≡ refuse 12
+unfolding unless
+begin-record w r z h e = rw (le-ltb 64 (length w) h) (ap (λ (y : Bool). unless (not y) 12 taken) (old-lists r z ∙ e))
+
+pub begin-taken : (w : List ℕ) (r : TxListRecord) → LearnedSized r → length w ≤ 64 → recordFits r ≡ true → beginTest w r ≡ taken
+unfolding unless
+begin-taken w r z h e = rw (le-ltb 64 (length w) h) (ap (λ (y : Bool). unless (not y) 12 taken) (old-lists r z ∙ e))
+
+pub record-counts : (r : TxListRecord) → recordFits r ≡ true → (r .saved .n ≤ 192) × (r .present .n ≤ 192) × (r .refused .n ≤ 192)
+record-counts r e =
+    let a : (leb (r .saved .n) 192 && leb (r .present .n) 192) ≡ true = left-true (leb (r .saved .n) 192 && leb (r .present .n) 192) (leb (r .refused .n) 192) e in (
+      leb-true _ _ (left-true (leb (r .saved .n) 192) (leb (r .present .n) 192) a),
+      leb-true _ _ (right-true (leb (r .saved .n) 192) (leb (r .present .n) 192) a),
+      leb-true _ _ (right-true (leb (r .saved .n) 192 && leb (r .present .n) 192) (leb (r .refused .n) 192) e),
+    )

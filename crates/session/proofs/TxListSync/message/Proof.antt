@@ -28,7 +28,7 @@ refused-requires c κs = search needs
 
 -- src/lib.rt:148:13
 returns : tie.Need-returns
-returns c = 
+returns c =
     let a = c .before .before in
     let b = a .before .before .before in
     let o = b .args .out .now in
@@ -43,7 +43,7 @@ refused-requires-2 c κs = search needs
 
 -- src/lib.rt:151:13
 returns-2 : tie.Need-returns-2
-returns-2 c = 
+returns-2 c =
     let a = c .before .before .before in
     let b = a .before .before .before in
     let o = b .args .out .now in
@@ -58,7 +58,7 @@ refused-requires-3 c κs = search needs
 
 -- src/lib.rt:154:13
 returns-3 : tie.Need-returns-3
-returns-3 c = 
+returns-3 c =
     let a = c .before .before .before .before in
     let b = a .before .before .before in
     let o = b .args .out .now in
@@ -73,7 +73,7 @@ refused-requires-4 c κs = search needs
 
 -- src/lib.rt:157:13
 returns-4 : tie.Need-returns-4
-returns-4 c = 
+returns-4 c =
     let a = c .before .before .before .before .before in
     let b = a .before .before .before in
     let o = b .args .out .now in
@@ -92,7 +92,7 @@ refused-requires-5 c κs = search needs
 
 -- src/lib.rt:160:13
 returns-5 : tie.Need-returns-5
-returns-5 c = 
+returns-5 c =
     let e = c .before .before .before in
     let a = e .before .before .before .before in
     let b = a .before .before .before in
@@ -105,7 +105,7 @@ returns-5 c =
 
 -- src/lib.rt:162:13
 heard-requires : tie.Need-heard-requires
-heard-requires c κs = 
+heard-requires c κs =
     let e = c .before .before in
     let a = e .before .before .before .before in
     let b = a .before .before .before in
@@ -121,7 +121,7 @@ same-length c = search needs
 
 -- src/lib.rt:144:5
 returns-6 : tie.Need-returns-6
-returns-6 c = 
+returns-6 c =
     let g = c .before .before .before .before .before in
     let e = g .before .before in
     let a = e .before .before .before .before in

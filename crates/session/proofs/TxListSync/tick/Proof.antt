@@ -25,7 +25,7 @@ refused-requires c κs = search needs
 
 -- src/lib.rt:147:13
 returns : tie.Need-returns
-returns c = 
+returns c =
     let a = c .before .before in
     let b = a .before .before in
     let o = b .args .out .now in
@@ -39,7 +39,7 @@ refused-requires-2 c κs = search needs
 
 -- src/lib.rt:150:13
 returns-2 : tie.Need-returns-2
-returns-2 c = 
+returns-2 c =
     let a = c .before .before .before in
     let b = a .before .before in
     let o = b .args .out .now in
@@ -53,7 +53,7 @@ refused-requires-3 c κs = search needs
 
 -- src/lib.rt:153:13
 returns-3 : tie.Need-returns-3
-returns-3 c = 
+returns-3 c =
     let a = c .before .before .before .before in
     let b = a .before .before in
     let o = b .args .out .now in
@@ -75,7 +75,7 @@ same-length c = search needs
 
 -- src/lib.rt:143:5
 returns-4 : tie.Need-returns-4
-returns-4 c = 
+returns-4 c =
     let e = c .before .before .before .before .before in
     let a = e .before .before .before in
     let b = a .before .before in

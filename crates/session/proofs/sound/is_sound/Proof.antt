@@ -67,10 +67,12 @@ sized c =
     }
 
 returns : tie.Need-returns
-returns c =
-    (c .sound-at .ensures
-    ∙ ap₂ (λ (l : Limits) (n : Counts). soundAt l n (c .before .before .before .args .s .state)) (c .before .before .helm-limits .ensures) (c .before .counts-of .ensures)
-    ∙ sound-same (c .before .before .before .args .s), sized (c .before .before .before))
+returns c = (
+  c .sound-at .ensures
+      ∙ ap₂ (λ (l : Limits) (n : Counts). soundAt l n (c .before .before .before .args .s .state)) (c .before .before .helm-limits .ensures) (c .before .counts-of .ensures)
+      ∙ sound-same (c .before .before .before .args .s),
+  sized (c .before .before .before),
+)
 
 pub is-sound-spec : {M : Type 1} → statement M
 is-sound-spec =
