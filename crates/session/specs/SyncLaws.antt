@@ -46,7 +46,7 @@ sound-same s =
     ap₂ (λ (x y : Bool). x && (formatIn true (s .state) && (owesIn (s .state) (s .held .owed .n) && y))) (counts-same s) (sums-same s (s .state))
 
 -- what `lacks` says loses nothing
-lacksBack : Said → Lacks
+abbrev lacksBack : Said → Lacks
 lacksBack (says silent) = SaysNothing
 lacksBack (says fromWhole) = Whole
 lacksBack (says fromPart) = Partial
