@@ -1,4 +1,5 @@
 // The answers to enable, commit and activate.
+use super::ANSWER_TIMEOUT_MS;
 use super::Known;
 use super::List64;
 use super::List256;
@@ -7,6 +8,9 @@ use super::TxListSync;
 use super::write::Sent;
 use super::write::Step;
 use super::write::stay;
+use replies::BEM_ACTIVATE_PGN_ENABLE_LISTS;
+use replies::BEM_COMMIT_TO_EEPROM;
+use replies::BEM_TX_PGN_ENABLE;
 use tx_list::State;
 use views::EnableResult;
 ghost use mathlib.Core.Path.{_≡_};
@@ -138,7 +142,7 @@ fn ask_next(s: TxListSync, time: u64) -> Step
     pgns::shift(&mut a, n);
     let owed = List64 { pgns: a, n: n - 1 };
     h.owed = owed;
-    h.deadline = time + 10000;
+    h.deadline = time + ANSWER_TIMEOUT_MS;
     let sync = TxListSync {
         state: State::Enabling,
         held: h,
@@ -155,7 +159,7 @@ fn close(s: TxListSync, time: u64) -> Step
     ensures { λ r. ⌜ toldStep r ≡ stepOf (closes kind (ofSync s) time) ⌝ }
 {
     let mut h = s.held;
-    h.deadline = time + 10000;
+    h.deadline = time + ANSWER_TIMEOUT_MS;
     let sync = TxListSync {
         state: State::Done,
         held: h,
@@ -171,7 +175,7 @@ fn commit(s: TxListSync, time: u64) -> Step
     ensures { λ r. ⌜ toldStep r ≡ stepOf (commits kind (ofSync s) time) ⌝ }
 {
     let mut h = s.held;
-    h.deadline = time + 10000;
+    h.deadline = time + ANSWER_TIMEOUT_MS;
     let sync = TxListSync {
         state: State::Committing,
         held: h,
@@ -200,11 +204,13 @@ pub(crate) fn on_enable(s: TxListSync, time: u64, payload: &[u8]) -> Step
     requires { ⌜ (s .held .owed .n ≤ 64) × (s .held .known .list .n < 1344) × (s .held .learned .present .n < 256) × (s .held .learned .refused .n < 256) × (s .held .fresh .n < 64) ⌝ }
     ensures { λ r. ⌜ toldStep r ≡ stepOf (heard kind State.Enabling (ofSync s) time (now (payload .entry))) ⌝ }
 {
-    if views::starts(payload, 0x47) {
-        let marked = mark(s, payload);
-        go_on(marked, time)
-    } else {
-        stay(s)
+    let bem = field::byte_at(payload, 0);
+    match bem {
+        BEM_TX_PGN_ENABLE => {
+            let marked = mark(s, payload);
+            go_on(marked, time)
+        }
+        _ => stay(s),
     }
 }
 
@@ -213,7 +219,7 @@ fn activate(s: TxListSync, time: u64) -> Step
     ensures { λ r. ⌜ toldStep r ≡ stepOf (committed kind good (ofSync s) time) ⌝ }
 {
     let mut h = s.held;
-    h.deadline = time + 10000;
+    h.deadline = time + ANSWER_TIMEOUT_MS;
     let sync = TxListSync {
         state: State::Activating,
         held: h,
@@ -228,10 +234,10 @@ pub(crate) fn on_commit(s: TxListSync, time: u64, payload: &[u8]) -> Step
     requires { ⌜ time ≤ 18446744073709541615 ⌝ }
     ensures { λ r. ⌜ toldStep r ≡ stepOf (heard kind State.Committing (ofSync s) time (now (payload .entry))) ⌝ }
 {
-    if views::starts(payload, 0x01) {
-        activate(s, time)
-    } else {
-        stay(s)
+    let bem = field::byte_at(payload, 0);
+    match bem {
+        BEM_COMMIT_TO_EEPROM => activate(s, time),
+        _ => stay(s),
     }
 }
 
@@ -249,7 +255,7 @@ fn save(s: TxListSync, time: u64) -> Step
     let mut learned = h.learned;
     learned.saved = saved;
     h.learned = learned;
-    h.deadline = time + 10000;
+    h.deadline = time + ANSWER_TIMEOUT_MS;
     let sync = TxListSync {
         state: State::Done,
         held: h,
@@ -264,9 +270,9 @@ pub(crate) fn on_activate(s: TxListSync, time: u64, payload: &[u8]) -> Step
     requires { ⌜ (time ≤ 18446744073709541615) × (s .held .learned .saved .n + s .held .fresh .n ≤ 256) × (s .held .fresh .n ≤ 64) ⌝ }
     ensures { λ r. ⌜ toldStep r ≡ stepOf (heard kind State.Activating (ofSync s) time (now (payload .entry))) ⌝ }
 {
-    if views::starts(payload, 0x4B) {
-        save(s, time)
-    } else {
-        stay(s)
+    let bem = field::byte_at(payload, 0);
+    match bem {
+        BEM_ACTIVATE_PGN_ENABLE_LISTS => save(s, time),
+        _ => stay(s),
     }
 }

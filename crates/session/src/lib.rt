@@ -102,6 +102,18 @@ pub enum Lacks {
     Refused(u8),
 }
 
+// The first firmware with Format 2, × 1000.
+pub const F2_FIRMWARE: u16 = 2500;
+
+// The wait after the mode before the list is read.
+pub const READ_DELAY_MS: u64 = 2000;
+
+// The wait for any answer.
+pub const ANSWER_TIMEOUT_MS: u64 = 10000;
+
+// Attempts in each format.
+pub const READ_ATTEMPTS: u32 = 3;
+
 // The largest time that a call may give: 10,000 ms more still fit 64 bits.
 pub const TICK_LIMIT: u64 = 18446744073709541615;
 

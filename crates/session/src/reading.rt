@@ -1,9 +1,11 @@
 // A message while the list is read, and what follows once it is.
+use super::ANSWER_TIMEOUT_MS;
 use super::Known;
 use super::List64;
 use super::List256;
 use super::List1024;
 use super::List1344;
+use super::READ_DELAY_MS;
 use super::TxListSync;
 use super::answers;
 use super::ticks::start_f1;
@@ -12,6 +14,7 @@ use super::write::Step;
 use super::write::stay;
 use lists::F2List;
 use lists::F2Read;
+use replies::BEM_SUPPORTED_PGN_LIST;
 use tx_list::State;
 use views::F1Kind;
 use views::F2Kind;
@@ -63,7 +66,7 @@ fn on_mode(s: TxListSync, time: u64, payload: &[u8]) -> Step
 {
     if views::is_mode(payload) {
         let mut h = s.held;
-        h.deadline = time + 2000;
+        h.deadline = time + READ_DELAY_MS;
         let sync = TxListSync {
             state: State::ReadAt,
             held: h,
@@ -90,7 +93,7 @@ fn add_f1(s: TxListSync, time: u64, payload: &[u8]) -> Step
     pgns::add_pgns(&mut a, at, payload, 13, n);
     let list = List1024 { pgns: a, n: at + n };
     h.list = list;
-    h.deadline = time + 10000;
+    h.deadline = time + ANSWER_TIMEOUT_MS;
     let sync = TxListSync { state: st, held: h };
     Step {
         sent: Sent::Nothing,
@@ -105,7 +108,7 @@ fn on_list(s: TxListSync, known: Known, n: usize, time: u64) -> Step
 {
     let mut h = s.held;
     h.known = known;
-    h.deadline = time + 10000;
+    h.deadline = time + ANSWER_TIMEOUT_MS;
     let mut a = h.owed.pgns;
     let w = h.wanted.n;
     let p = h.learned.present.n;
@@ -191,10 +194,10 @@ fn put_part(f2: F2List, payload: &[u8]) -> F2List
     ensures { λ r. ⌜ r ≡ put (now (payload .entry)) f2 ⌝ }
 {
     let d = replies::data_of(payload);
-    if views::starts(payload, 0x40) {
-        f2.add_supported(d)
-    } else {
-        f2.add_enabled(d)
+    let bem = field::byte_at(payload, 0);
+    match bem {
+        BEM_SUPPORTED_PGN_LIST => f2.add_supported(d),
+        _ => f2.add_enabled(d),
     }
 }
 
@@ -205,7 +208,7 @@ fn store_part(s: TxListSync, f2: F2List, time: u64) -> Step
     let st = s.state;
     let mut h = s.held;
     h.f2 = f2;
-    h.deadline = time + 10000;
+    h.deadline = time + ANSWER_TIMEOUT_MS;
     let sync = TxListSync { state: st, held: h };
     Step {
         sent: Sent::Nothing,

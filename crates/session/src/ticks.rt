@@ -1,4 +1,7 @@
 // A tick: the start of a read, another attempt, or the end.
+use super::ANSWER_TIMEOUT_MS;
+use super::F2_FIRMWARE;
+use super::READ_ATTEMPTS;
 use super::TxListSync;
 use super::write::Sent;
 use super::write::Step;
@@ -17,7 +20,7 @@ pub(crate) fn start_f1(s: TxListSync, attempt: u32, time: u64) -> Step
 {
     let mut h = s.held;
     h.list.n = 0;
-    h.deadline = time + 10000;
+    h.deadline = time + ANSWER_TIMEOUT_MS;
     let sync = TxListSync {
         state: State::Reading(attempt),
         held: h,
@@ -36,7 +39,7 @@ pub(crate) fn start_f2(s: TxListSync, attempt: u32, time: u64) -> Step
     let mut h = s.held;
     let f = F2List::new();
     h.f2 = f;
-    h.deadline = time + 10000;
+    h.deadline = time + ANSWER_TIMEOUT_MS;
     let sync = TxListSync {
         state: State::ReadingF2(attempt),
         held: h,
@@ -85,7 +88,7 @@ fn start_read(s: TxListSync, time: u64) -> Step
     ensures { λ r. ⌜ toldStep r ≡ stepOf (late kind State.ReadAt (ofSync s) time) ⌝ }
 {
     let f = s.held.firmware;
-    if f.told & (2500 <= f.version) {
+    if f.told & (F2_FIRMWARE <= f.version) {
         start_f2(s, 1, time)
     } else {
         start_f1(s, 1, time)
@@ -96,7 +99,7 @@ fn late_f1(s: TxListSync, attempt: u32, time: u64) -> Step
     requires { ⌜ time ≤ 18446744073709541615 ⌝ }
     ensures { λ r. ⌜ toldStep r ≡ stepOf (late kind (State.Reading attempt) (ofSync s) time) ⌝ }
 {
-    if attempt < 3 {
+    if attempt < READ_ATTEMPTS {
         start_f1(s, attempt + 1, time)
     } else {
         give_up(s)
@@ -107,7 +110,7 @@ fn late_f2(s: TxListSync, attempt: u32, time: u64) -> Step
     requires { ⌜ time ≤ 18446744073709541615 ⌝ }
     ensures { λ r. ⌜ toldStep r ≡ stepOf (late kind (State.ReadingF2 attempt) (ofSync s) time) ⌝ }
 {
-    if attempt < 3 {
+    if attempt < READ_ATTEMPTS {
         start_f2(s, attempt + 1, time)
     } else {
         start_f1(s, 1, time)

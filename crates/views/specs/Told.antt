@@ -4,7 +4,7 @@ use Prim.Native.Nat.{ℕ}
 use mathlib.Core.Path.{_≡_, refl, ap, sym, _∙_}
 use mathlib.Core.Bool.{Bool, _&&_, _||_}
 use mathlib.Core.List.{List}
-use Rattle.tx_list.specs.Views.{F1, adds, ends, neither, F2, wrong, part, alien, Answer, enabled, there, denied, starts, parsed}
+use Rattle.tx_list.specs.Views.{F1, adds, ends, neither, F2, wrong, part, alien, Answer, enabled, there, denied, starts, sequence, parsed, listPgns, f1By}
 use Rattle.views.specs.declared.F1Kind.{F1Kind}
 use Rattle.views.specs.declared.F1Kind.the-variants.{Adds, Ends, Neither}
 use Rattle.views.specs.declared.F2Kind.{F2Kind}
@@ -27,6 +27,10 @@ abbrev pub toldResult : EnableResult → Answer
 toldResult Now = enabled
 toldResult Already = there
 toldResult Refused = denied
+
+-- a reply 49, by its byte 1
+unfoldable pub f1Listed : List ℕ → F1
+f1Listed m = f1By (sequence 1 m) (sequence 4 m) (listPgns m)
 
 -- "every parsed reply 40 or 4F"
 unfoldable pub isFormat2 : List ℕ → Bool

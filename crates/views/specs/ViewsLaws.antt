@@ -4,7 +4,7 @@ use native.Mathlib.Omega.{arith}
 use mathlib.Core.Path.{_≡_, refl, ap, sym, _∙_}
 use mathlib.Core.Bool.{Bool, true, false, _&&_, _||_}
 use mathlib.Core.List.{List, [], _∷_}
-use borrow.Author.Tests.{le-leb, lt-leb, leb-true, leb-false, ne-eqb}
+use borrow.Author.Tests.{le-leb, lt-leb, leb-true, leb-false, eq-eqb, ne-eqb}
 use lib.Dec.{leb, eqb}
 use lib.Signed.{mag}
 use mir.Syntax.{w32}
@@ -20,7 +20,7 @@ use Rattle.replies.specs.declared.mode.OperatingMode.{OperatingMode}
 use Rattle.replies.specs.declared.mode.ModeFound.{ModeFound}
 use Rattle.replies.specs.declared.mode.ModeFound.the-variants.{Mode as OneMode, Nothing}
 use Rattle.tx_list.specs.Views.{starts, sequence, parsed, isZero, isAlready, noError, isFound, isMode, pgnsAt, least, groupCount, listPgns, adds, ends, neither, f1By, f1Of, wrong, part, alien, f2By, f2Of, enabled, there, denied, answerBy, answerOf}
-use Rattle.views.specs.Told.{isFormat2}
+use Rattle.views.specs.Told.{f1Listed, isFormat2}
 
 -- Bytes 0 and 1
 
@@ -33,6 +33,17 @@ pub starts-some : (b : ℕ) (m : List ℕ) → 0 < length m → starts b m ≡ e
 unfolding starts
 starts-some b [] h = absurd (omega arith)
 starts-some b (x ∷ m) h = refl
+
+-- the first byte, or 0 where there is none
+pub starts-at : (b : ℕ) (m : List ℕ) → 0 < b → getD m 0 0 ≡ b → starts b m ≡ true
+unfolding starts
+starts-at b [] h e = absurd (omega (arith, e))
+starts-at b (x ∷ m) h e = eq-eqb x b e
+
+pub starts-not : (b : ℕ) (m : List ℕ) → (getD m 0 0 ≡ b → ⊥) → starts b m ≡ false
+unfolding starts
+starts-not b [] h = refl
+starts-not b (x ∷ m) h = ne-eqb x b h
 
 pub sequence-none : (b : ℕ) (m : List ℕ) → length m < 2 → sequence b m ≡ false
 unfolding sequence
@@ -134,17 +145,21 @@ pub f1-other : (m : List ℕ) → starts 0x49 m ≡ false → neither ≡ f1Of m
 unfolding f1Of f1By
 f1-other m e = rw e
 
-pub f1-adds : (m : List ℕ) → starts 0x49 m ≡ true → sequence 1 m ≡ true → adds (listPgns m) ≡ f1Of m
-unfolding f1Of f1By
-f1-adds m e f = rw (e, f)
+pub f1-listed : (m : List ℕ) → starts 0x49 m ≡ true → f1Listed m ≡ f1Of m
+unfolding f1Of f1Listed
+f1-listed m e = rw e
 
-pub f1-ends : (m : List ℕ) → starts 0x49 m ≡ true → sequence 1 m ≡ false → sequence 4 m ≡ true → ends ≡ f1Of m
-unfolding f1Of f1By
-f1-ends m e f g = rw (e, f, g)
+pub listed-adds : (m : List ℕ) → sequence 1 m ≡ true → adds (listPgns m) ≡ f1Listed m
+unfolding f1Listed f1By
+listed-adds m f = rw f
 
-pub f1-neither : (m : List ℕ) → starts 0x49 m ≡ true → sequence 1 m ≡ false → sequence 4 m ≡ false → neither ≡ f1Of m
-unfolding f1Of f1By
-f1-neither m e f g = rw (e, f, g)
+pub listed-ends : (m : List ℕ) → sequence 1 m ≡ false → sequence 4 m ≡ true → ends ≡ f1Listed m
+unfolding f1Listed f1By
+listed-ends m f g = rw (f, g)
+
+pub listed-neither : (m : List ℕ) → sequence 1 m ≡ false → sequence 4 m ≡ false → neither ≡ f1Listed m
+unfolding f1Listed f1By
+listed-neither m f g = rw (f, g)
 
 -- Format 2
 
@@ -160,13 +175,17 @@ pub format2-40 : (m : List ℕ) → 12 ≤ length m → starts 0x40 m ≡ true �
 unfolding isFormat2 parsed
 format2-40 m h e = rw (e, le-leb 12 (length m) h)
 
-pub format2-4F : (m : List ℕ) → 12 ≤ length m → starts 0x40 m ≡ false → starts 0x4F m ≡ isFormat2 m
+pub format2-4F : (m : List ℕ) → 12 ≤ length m → starts 0x4F m ≡ true → true ≡ isFormat2 m
 unfolding isFormat2 parsed
-format2-4F m h e = rw (e, le-leb 12 (length m) h) (go (starts 0x4F m))
+format2-4F m h e = go (starts 0x40 m)
   where
-    go : (t : Bool) → t ≡ t && true
-    go true = refl
-    go false = refl
+    go : (t : Bool) → true ≡ (t || starts 0x4F m) && leb 12 (length m)
+    go true = sym (le-leb 12 (length m) h)
+    go false = rw (e, le-leb 12 (length m) h)
+
+pub format2-other : (m : List ℕ) → starts 0x40 m ≡ false → starts 0x4F m ≡ false → false ≡ isFormat2 m
+unfolding isFormat2
+format2-other m e f = rw (e, f)
 
 pub f2-alien : (m : List ℕ) → isFormat2 m ≡ false → alien ≡ f2Of m
 unfolding f2Of f2By isFormat2

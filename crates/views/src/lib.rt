@@ -2,7 +2,7 @@
 // No function requires anything.
 ghost use mathlib.Core.Path.{_≡_};
 ghost use Rattle.tx_list.specs.Views as view;
-ghost use Rattle.views.specs.Told.{toldF1, toldF2, toldResult, isFormat2};
+ghost use Rattle.views.specs.Told.{toldF1, toldF2, toldResult, f1Listed, isFormat2};
 use replies::BEM_SUPPORTED_PGN_LIST;
 use replies::BEM_TX_PGN_ENABLE_LIST_F1;
 use replies::BEM_TX_PGN_ENABLE_LIST_F2;
@@ -71,12 +71,10 @@ pub fn group_count(m: &[u8]) -> usize
     if count <= groups { count } else { groups }
 }
 
-pub fn f1_kind(m: &[u8]) -> F1Kind
-    ensures { λ r. ⌜ toldF1 r (view.listPgns (now (m .entry))) ≡ view.f1Of (now (m .entry)) ⌝ }
+// Of a reply 49, by its sequence.
+fn list_kind(m: &[u8]) -> F1Kind
+    ensures { λ r. ⌜ toldF1 r (view.listPgns (now (m .entry))) ≡ f1Listed (now (m .entry)) ⌝ }
 {
-    if !starts(m, BEM_TX_PGN_ENABLE_LIST_F1) {
-        return F1Kind::Neither;
-    }
     if has_sequence(m, 1) {
         return F1Kind::Adds;
     }
@@ -86,6 +84,16 @@ pub fn f1_kind(m: &[u8]) -> F1Kind
     F1Kind::Neither
 }
 
+pub fn f1_kind(m: &[u8]) -> F1Kind
+    ensures { λ r. ⌜ toldF1 r (view.listPgns (now (m .entry))) ≡ view.f1Of (now (m .entry)) ⌝ }
+{
+    let bem = field::byte_at(m, 0);
+    match bem {
+        BEM_TX_PGN_ENABLE_LIST_F1 => list_kind(m),
+        _ => F1Kind::Neither,
+    }
+}
+
 // Whether it is a reply 40 or 4F of 12 bytes or more.
 fn is_format2(m: &[u8]) -> bool
     ensures { λ r. ⌜ r ≡ isFormat2 (now (m .entry)) ⌝ }
@@ -93,10 +101,12 @@ fn is_format2(m: &[u8]) -> bool
     if m.len() < 12 {
         return false;
     }
-    if starts(m, BEM_SUPPORTED_PGN_LIST) {
-        return true;
+    let bem = field::byte_at(m, 0);
+    match bem {
+        BEM_SUPPORTED_PGN_LIST => true,
+        BEM_TX_PGN_ENABLE_LIST_F2 => true,
+        _ => false,
     }
-    starts(m, BEM_TX_PGN_ENABLE_LIST_F2)
 }
 
 pub fn f2_kind(m: &[u8]) -> F2Kind

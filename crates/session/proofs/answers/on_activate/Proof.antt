@@ -1,13 +1,15 @@
 -- `session::answers::on_activate` meets its contract. Assumes nothing.
+use native.Mathlib.Omega.{arith}
 use mathlib.Core.Path.{ap, sym, _∙_}
 use borrow.Author.Needs.{needs}
+use Rattle.views.specs.ViewsLaws.{starts-at, starts-not}
 use Rattle.session.specs.AnswersLaws.{activating-answer, activating-other}
 use Rattle.session.specs.Sync.{ofSync, toldStep, stepOf}
 use Rattle.session.proofs.answers.on_activate.Statement.{statement}
 use Rattle.session.proofs.answers.on_activate.Tie as tie
 
-starts-requires : tie.Need-starts-requires
-starts-requires c κs = search needs
+byte-at-requires : tie.Need-byte-at-requires
+byte-at-requires c κs = search needs
 
 save-requires : tie.Need-save-requires
 save-requires c κs = search needs
@@ -18,15 +20,15 @@ stay-requires c κs = search needs
 returns : tie.Need-returns
 returns c =
     let a = c .before .before .before .before .args in
-    let e = sym (c .before .before .starts .ensures) ∙ c .before .if1 .taken in
+    let e = starts-at 0x4B (a .payload .now) (omega arith) (sym (c .before .before .byte-at .ensures) ∙ c .before .match .keys1) in
     c .save .ensures ∙ ap stepOf (sym (activating-answer (ofSync (a .s)) (a .time) _ e))
 
 returns-2 : tie.Need-returns-2
 returns-2 c =
     let a = c .before .before .before .before .args in
-    let e = sym (c .before .before .starts .ensures) ∙ c .before .if1 .left in
+    let e = starts-not 0x4B (a .payload .now) (λ e. c .before .match .rest .1 (c .before .before .byte-at .ensures ∙ e)) in
     ap toldStep (c .stay .ensures) ∙ ap stepOf (sym (activating-other (ofSync (a .s)) (a .time) _ e))
 
 pub on-activate-spec : {M : Type 1} → statement M
 on-activate-spec =
-    tie.close (tie.spec starts-requires save-requires stay-requires returns returns-2)
+    tie.close (tie.spec byte-at-requires save-requires stay-requires returns returns-2)

@@ -1,6 +1,8 @@
 -- `session::reading::put_part` meets its contract. Assumes nothing.
 use Prim.Native.Nat.{ℕ}
-use mathlib.Core.Path.{ap, _∙_}
+use native.Mathlib.Omega.{arith}
+use mathlib.Core.Path.{refl, ap, sym, _∙_}
+use Rattle.views.specs.ViewsLaws.{starts-at, starts-not}
 use mathlib.Core.Bool.{true, false}
 use mathlib.Core.List.{List}
 use borrow.Author.Needs.{needs}
@@ -12,8 +14,8 @@ use Rattle.session.proofs.reading.put_part.Tie as tie
 data-of-requires : tie.Need-data-of-requires
 data-of-requires c κs = search needs
 
-starts-requires : tie.Need-starts-requires
-starts-requires c κs = search needs
+byte-at-requires : tie.Need-byte-at-requires
+byte-at-requires c κs = search needs
 
 add-supported-requires : tie.Need-add-supported-requires
 add-supported-requires c κs = search needs
@@ -26,21 +28,21 @@ returns c =
     let a = c .before .before .before .before .before .args in
     c .add-supported .ensures
     ∙ ap (λ (d : List ℕ). addSupported d (a .f2)) (c .before .before .before .data-of .ensures)
-    ∙ put-as (a .payload .now) (a .f2) true (c .before .before .starts .ensures) (c .before .if1 .taken)
+    ∙ put-as (a .payload .now) (a .f2) true refl (starts-at 0x40 (a .payload .now) (omega arith) (sym (c .before .before .byte-at .ensures) ∙ c .before .match .keys1))
 
 returns-2 : tie.Need-returns-2
 returns-2 c =
     let a = c .before .before .before .before .before .args in
     c .add-enabled .ensures
     ∙ ap (λ (d : List ℕ). addEnabled d (a .f2)) (c .before .before .before .data-of .ensures)
-    ∙ put-as (a .payload .now) (a .f2) false (c .before .before .starts .ensures) (c .before .if1 .left)
+    ∙ put-as (a .payload .now) (a .f2) false refl (starts-not 0x40 (a .payload .now) (λ e. c .before .match .rest .1 (c .before .before .byte-at .ensures ∙ e)))
 
 pub put-part-spec : {M : Type 1} → statement M
 put-part-spec =
     tie.close
     (tie.spec
     data-of-requires
-    starts-requires
+    byte-at-requires
     add-supported-requires
     add-enabled-requires
     returns
