@@ -2,7 +2,7 @@
 -- from a session just begun or restarted; and what follows of a gateway that helps.
 -- The statements are `Demand3` of session/specs/Played, over the claim of tx_list/specs/Demand and the observer of tx_list/specs/Observer, and `StartUp` of session/specs/StartUp. The functions' contracts
 -- equate each answer with the definitions that these statements are about. Assumes nothing.
-use Rattle.session.specs.Played.{Played, Demand3}
+use Rattle.session.specs.Played.{Played, Demand3, Taken}
 use Rattle.session.specs.StartUp.{StartUp, StartedUp}
 use Rattle.session.proofs.Demand3 as proved
 use Rattle.session.proofs.StartUp as lives
@@ -16,6 +16,10 @@ use Prim.Native.Nat.{ℕ}
 -- "after these calls, whatever clock and gateway do": one claim about the whole list of calls
 pub demand-3 : Demand3
 demand-3 = proved.demand3
+
+-- and the openings that it speaks of are those of document 01: at most 64 wanted, record lists of at most 192
+pub openings : Taken
+openings = proved.taken-openings
 
 -- beyond the demands: the start-up ends done, with every wanted PGN that was not refused before on the known list, so that `lacks`
 -- says nothing of it, and everything newly enabled saved

@@ -45,7 +45,7 @@ pub matches :
 unfolding pgnsOf allWhole wholeList whole every addSupported addEnabled enabledAdded proprietaryAdded partAdded resized entriesRead entriesFrom mapPgns bitsFrom matched firstMatch field
 matches = refl
 
--- "A new size starts blank", "also where the part then places no entry"; the same size keeps what is there
+-- "A new size starts blank", also where the part then places no entry; the same size keeps what is there
 pub new-size : addSupported (supportedPart 2 0 0 []) supported .supported ≡ record { sized = true; size = 2; entries = replicate 255 blankSupported }
 unfolding addSupported partAdded resized entriesRead entriesFrom field
 new-size = refl

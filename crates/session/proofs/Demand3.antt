@@ -3,10 +3,12 @@
 use Prim.Native.Nat.{ℕ, _≤_}
 use native.Mathlib.Omega.{arith}
 use mathlib.Core.Path.{_≡_, refl, sym, ap, _∙_, subst}
-use mathlib.Core.Bool.{Bool, true, false, not}
+use mathlib.Core.Bool.{Bool, true, false, not, _&&_}
 use mathlib.Core.List.{List, [], _∷_, _++_, append-nil, append-assoc}
 use mathlib.Core.Option.{some}
 use mathlib.Core.Logic.{inl}
+use lib.Dec.{ltb}
+use borrow.Author.Tests.{le-ltb}
 use lib.ListN.{length, take, drop}
 use lib.Seq.{sets, length-sets, take-append-seam, drop-append-seam}
 use Rattle.field.specs.Pick.{pick}
@@ -26,12 +28,14 @@ use Rattle.lists.specs.Format2Laws.{formed-none, formed-supported, formed-enabl
 use Rattle.tx_list.specs.Views.{starts}
 use Rattle.tx_list.specs.Reading.{Command, read1, read40, read4F, enable, commit, activate, Call, message, tick, firmware, taken, unless}
 use Rattle.field.specs.Fields.{bytesOf}
-use Rattle.tx_list.specs.Session.{Record, Session, step, gate, soundly, onFirmware, wellFormed}
+use Rattle.tx_list.specs.Session.{Record, Session, allLe, oldBounds, begin, beginBy, restart, step, gate, soundly, onFirmware, wellFormed}
 use Rattle.tx_list.specs.Stored as stored
 use Rattle.tx_list.specs.Stored.{Answer, answer, Ran′, runs, wire, then, new, again, opens, Faithful, Demand3-kept, wanted′, old′, Shown}
 use Rattle.tx_list.specs.Memory.{Sized}
 use Rattle.tx_list.proofs.Demand3.{Lawful}
+use Rattle.tx_list.proofs.Lists.{allLe-true}
 use Rattle.tx_list.proofs.Kept.{demand3-kept}
+use Rattle.tx_list.proofs.MovesSound.{sound-is, sound-counts, wanted-fits}
 use Rattle.tx_list.proofs.MemoryFaithful.{store-faithful, clear-sized, clear-counted}
 use Rattle.session.specs.declared.TxListSync.{TxListSync}
 use Rattle.session.specs.declared.Called.{Called}
@@ -39,7 +43,7 @@ use Rattle.session.specs.declared.Begun.{Begun}
 use Rattle.session.specs.Sync.{kind, store, clear, ofSync, toSync, put, frameOf, payloadOf, Told, toldCalled, gave, called, begun, setTo, restarted, begunWith}
 use Rattle.session.specs.SyncLaws.{of-to}
 use Rattle.session.specs.ReadingLaws.{put-formed}
-use Rattle.session.specs.Played.{Played, none, message′, tick′, firmware′, Reads, Kept, Demand3}
+use Rattle.session.specs.Played.{Played, none, message′, tick′, firmware′, Reads, Holds, Demand3, Taken}
 
 -- the kind is lawful
 
@@ -151,10 +155,11 @@ reads-wire (c ∷ cs) d r =
 shown-kept :
     (w : List ℕ) (old : Record ℕ) (calls : List Call) (last : TxListSync) (bytes : List ℕ)
     → Shown kind store w old calls (from last bytes)
-    → Kept w old calls last bytes
+    → Holds w old calls last bytes
 shown-kept w old calls last bytes h =
     record {
       sent = h .sent;
+      written = h .written;
       read = λ d r. subst (λ (l : List ℕ). Reads d l (h .sent)) (sym (h .written)) (reads-wire (h .sent) d r);
       claim = h .claim;
       unrefused = λ x out e. h .formed x e;
@@ -164,7 +169,7 @@ shown-from :
     (w : List ℕ) (old : Record ℕ) (s : TxListSync) (calls : List Call) (last : TxListSync) (bytes : List ℕ)
     → Played s calls last bytes
     → Shown kind store w old calls (runs kind store (from s []) calls)
-    → Kept w old calls last bytes
+    → Holds w old calls last bytes
 shown-from w old s calls last bytes p h =
     shown-kept w old calls last bytes (subst (λ (r : Ran′ kind store). Shown kind store w old calls r) (played-runs [] p) h)
 
@@ -180,4 +185,37 @@ demand3 =
           shown-from (wanted′ kind store (again s)) (old′ kind store (again s)) (restarted s .sync) calls last bytes
           (subst (λ (b : Begun). Played (b .sync) calls last bytes) e p)
           (demand3-kept kind store lawful faithful (again s) z (sym (ap (λ (b : Begun). b .number) e) ∙ n) calls);
+    }
+
+-- openings that are taken
+
+begin-by : (x y : Bool) (w : List ℕ) (old : Record ℕ) → x ≡ false → y ≡ true → answer kind store clear (beginBy kind x y w old) .no ≡ 0
+unfolding answer beginBy
+begin-by true y w old e f = let z : _≡_ {A = ℕ} 0 1 = cc in absurd (omega arith)
+begin-by false false w old e f = let z : _≡_ {A = ℕ} 0 1 = cc in absurd (omega arith)
+begin-by false true w old e f = refl
+
+again-by :
+    (a b x y : Bool) (c : TxListSync) (w : List ℕ) (old : Record ℕ)
+    → (a && b) ≡ true
+    → x ≡ false
+    → y ≡ true
+    → answer kind store c (soundly kind a (soundly kind b (beginBy kind x y w old))) .no ≡ 0
+unfolding answer soundly beginBy
+again-by false b x y c w old s e f = let z : _≡_ {A = ℕ} 0 1 = cc in absurd (omega arith)
+again-by true false x y c w old s e f = let z : _≡_ {A = ℕ} 0 1 = cc in absurd (omega arith)
+again-by true true true y c w old s e f = let z : _≡_ {A = ℕ} 0 1 = cc in absurd (omega arith)
+again-by true true false false c w old s e f = let z : _≡_ {A = ℕ} 0 1 = cc in absurd (omega arith)
+again-by true true false true c w old s e f = refl
+
+pub taken-openings : Taken
+unfolding opens begin restart
+taken-openings =
+    record {
+      begun = λ w old h l. begin-by (ltb 64 (length w)) (allLe (oldBounds kind old)) w old (le-ltb 64 (length w) h) (allLe-true (oldBounds kind old) l);
+      again = λ s z e l.
+          again-by (store .counted s) (wellFormed kind (store .abs s)) (ltb 64 (length (store .abs s .wanted))) (allLe (oldBounds kind (store .abs s .rec))) s
+          (store .abs s .wanted) (store .abs s .rec) e
+          (wanted-fits kind (ofSync s) z (sound-counts kind (ofSync s) (sym (sound-is kind (ofSync s) z) ∙ e)))
+          (allLe-true (oldBounds kind (store .abs s .rec)) l);
     }

@@ -19,7 +19,7 @@ use Rattle.session.specs.declared.TxListSync.{TxListSync}
 use Rattle.session.specs.declared.Begun.{Begun}
 use Rattle.session.specs.declared.IsDone.{IsDone}
 use Rattle.session.specs.Sync.{kind, store, ofSync, begun, restarted, begunWith, sound, doneOf, Said, says, refused, lackOf}
-use Rattle.session.specs.Played.{Played, Reads, Kept, heldBy}
+use Rattle.session.specs.Played.{Played, Reads, Holds, heldBy}
 use Rattle.session.specs.StartUp.{StartedUp, StartUp}
 use Rattle.session.proofs.Demand3.{lawful, faithful, demand3, from, played-runs, reads-wire}
 
@@ -52,7 +52,7 @@ lack-is last p e l = ap (λ (y : Bool). pick y (says (lacks (absFlat (ofSync las
 up :
     (w : List ℕ) (old : Record ℕ) (g : Gateway) (s last : TxListSync) (calls : List Call) (bytes : List ℕ)
     → Played s calls last bytes
-    → Kept w old calls last bytes
+    → Holds w old calls last bytes
     → Up kind store w old g (runs kind store (from s []) calls)
     → StartedUp w old g last bytes
 unfolding isDone

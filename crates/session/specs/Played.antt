@@ -1,8 +1,9 @@
 -- Demand 3 on the functions' own contracts and on bytes: what is played is any list of calls, each answer as the function's contract
 -- gives it, each call getting the session that the last one returned. The claim itself is tx_list's (specs/Demand there).
 -- Assumes nothing.
-use Prim.Native.Nat.{ℕ}
+use Prim.Native.Nat.{ℕ, _≤_}
 use mathlib.Core.Path.{_≡_}
+use mathlib.Core.Bool.{true}
 use mathlib.Core.List.{List, [], _∷_, _++_}
 use lib.ListN.{length, take, drop}
 use Rattle.framing.specs.Decode as decoder
@@ -11,13 +12,14 @@ use Rattle.framing.specs.Feed.{fed}
 use Rattle.framing.specs.Stuffing.{Ready}
 use Rattle.tx_list.specs.Reading.{Command, Call, message, tick, firmware}
 use Rattle.lists.specs.declared.F2List.{F2List}
-use Rattle.tx_list.specs.Session.{Record, Session}
+use Rattle.tx_list.specs.Session.{Record, Session, AllLe, oldBounds}
 use Rattle.tx_list.specs.Demand.{Claim, happened}
+use Rattle.tx_list.specs.Stored.{wire}
 use Rattle.tx_list.specs.Memory.{live, Sized, absFlat}
 use Rattle.session.specs.declared.TxListSync.{TxListSync}
 use Rattle.session.specs.declared.Called.{Called}
 use Rattle.session.specs.declared.Begun.{Begun}
-use Rattle.session.specs.Sync.{kind, ofSync, of64, recordOf, toldCalled, called, setTo, restarted, begunWith, payloadOf}
+use Rattle.session.specs.Sync.{kind, store, ofSync, of64, recordOf, toldCalled, called, setTo, sound, restarted, begunWith, payloadOf}
 
 -- calls one after the other, with the bytes that they wrote: of each answer the first `count` bytes of its output
 pub data Played : TxListSync → List Call → TxListSync → List ℕ → Type 0 where
@@ -50,15 +52,17 @@ Reads d bytes (c ∷ cs) =
 abbrev pub heldBy : TxListSync → Session F2List ℕ
 heldBy s = absFlat (ofSync s)
 
--- THE CLAIM for a session that wants w, with the old record: the commands sent are what the decoder reads from the bytes written, they
--- and the record are as demand 3 says, and no call that follows is refused with 16
-pub record Kept (w : List ℕ) (old : Record ℕ) (calls : List Call) (last : TxListSync) (bytes : List ℕ) : Type 0 where
+-- THE CLAIM for a session that wants w, with the old record: the bytes written are the frames of the commands sent, and what the decoder reads
+-- from them are these commands; they and the record are as demand 3 says; and no call that follows is refused with 16
+pub record Holds (w : List ℕ) (old : Record ℕ) (calls : List Call) (last : TxListSync) (bytes : List ℕ) : Type 0 where
   pub sent : List Command
+  pub written : bytes ≡ wire kind store sent
   pub read : (d : decoder.State) → Ready base d → Reads d bytes sent
   pub claim : Claim kind w old (happened kind w old calls) (record { session = heldBy last; sent = sent })
   pub unrefused : (x : Call) (out : List ℕ) → called last x out .number ≡ 16 → ⊥
 
--- DEMAND 3, from a begin and from a restart. `Sized` says that each array has its length, which holds of every value of the struct.
+-- DEMAND 3, from a begin and from a restart that are not refused. `Sized` says that each array has its length, which holds of every value
+-- of the struct.
 pub record Demand3 : Type 0 where
   pub begun :
       (w : List ℕ) (old : Record ℕ) (r : Begun)
@@ -66,7 +70,7 @@ pub record Demand3 : Type 0 where
       → r .number ≡ 0
       → (calls : List Call) (last : TxListSync) (bytes : List ℕ)
       → Played (r .sync) calls last bytes
-      → Kept w old calls last bytes
+      → Holds w old calls last bytes
   pub again :
       (s : TxListSync) (r : Begun)
       → Sized kind (ofSync s)
@@ -74,4 +78,14 @@ pub record Demand3 : Type 0 where
       → r .number ≡ 0
       → (calls : List Call) (last : TxListSync) (bytes : List ℕ)
       → Played (r .sync) calls last bytes
-      → Kept (live (of64 (s .held .wanted))) (recordOf (s .held .learned)) calls last bytes
+      → Holds (live (of64 (s .held .wanted))) (recordOf (s .held .learned)) calls last bytes
+
+-- Which openings are taken: at most 64 wanted with record lists of at most 192; a session that is well formed with such a record.
+pub record Taken : Type 0 where
+  pub begun :
+      (w : List ℕ) (old : Record ℕ)
+      → length w ≤ 64
+      → AllLe (oldBounds kind old)
+      → begunWith w old .number ≡ 0
+  pub again :
+      (s : TxListSync) → Sized kind (ofSync s) → sound s ≡ true → AllLe (oldBounds kind (recordOf (s .held .learned))) → restarted s .number ≡ 0

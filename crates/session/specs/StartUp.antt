@@ -1,5 +1,5 @@
 -- What users care about: with a gateway that helps, the start-up ends well. The gateway (`Helpful`) answers the mode, tells its list and
--- answers every command with a good answer, each before its wait is over; calls of no interest may come in between (`Mixed`).
+-- answers every command with a good answer; calls of no interest may come in between, ticks before a wait is over among them (`Mixed`).
 -- The claim itself is tx_list's (specs/Live there), here of the functions' contracts and of bytes. Assumes nothing.
 use Prim.Native.Nat.{ℕ}
 use mathlib.Core.Path.{_≡_}

@@ -13,8 +13,8 @@ use Rattle.tx_list.specs.Views.{only, notes, isAnswer, answerOf, isDenie
 use Rattle.tx_list.specs.Reading.{Command, enable, commit, activate, Kind, Reading, await, waits, second, first, Turn, stay, goes, got, fails, isNew, start1, start2, onMode, onF1, onWhole, onF2, readMessage, opens, again2, again1, whenDue, readTick, full, Call, message, tick, firmware, Verdict, taken, refuse, unless, vetMessage, vetTick}
 use Rattle.tx_list.specs.Session.{isDone, Record, Known, unknown, Phase, reading, enabling, committing, activating, done, Session, Result, did, refuses, owed, learn, marked, kept, allLe, AllLe, knownMax, becomes, begins, phaseCounts, partsOkay, countsFit, owes, sums, sumsFit, wellFormed, beginBy, oldBounds, begin, opened, knowing, onTurn, onNext, onAnswer, onCommit, onActivate, onMessage, expire, onTick, onFirmware, full14, gate, step, soundly, restart, Ran, settle, run}
 use Rattle.tx_list.specs.Session as model
-use Rattle.tx_list.specs.Observer.{Stage, reads, unread, asks, commits, activates, over, Observer, listRead, answers, activated, isOver, brought, toSaved, freshOf, watching, goOn, seenRead, seeTurn, seeAnswered, seeAnswer, seeCommit, seeActivate, seeMessage, seeLate, seeTick, seeFull, counts, see, seeAll}
-use Rattle.tx_list.specs.Demand.{toPresent, toRefused, owedOf, enables, gained, Claim, happened, Opening, new, again, open-with, wantedOf, oldOf, Demand3}
+use Rattle.tx_list.specs.Observer.{Stage, reads, unread, asks, commits, activates, over, Observer, listRead, wholeRead, answers, activated, isOver, brought, toSaved, freshOf, watching, goOn, seenRead, seeTurn, seeAnswered, seeAnswer, seeCommit, seeActivate, seeMessage, seeLate, seeTick, seeFull, unlessRefused, see, seeAll}
+use Rattle.tx_list.specs.Demand.{toPresent, toRefused, toKnown, knownFrom, owedOf, enables, gained, Claim, happened, Opening, new, again, open-with, wantedOf, oldOf, Demand3}
 use Rattle.field.specs.Tests.{both-true, left-true}
 use Rattle.tx_list.proofs.Lists.{only-length, brought-snoc, brought-answers, brought-length, owed-length, notes-append, notes-length, drop-next, take-next, drop-count, enables-append, allLe-true, length-snoc, ltb-no, ltb-yes, gained-length, allLe-yes, brought-take}
 
@@ -29,9 +29,6 @@ pub record Lawful (k : Kind) : Type 0 where
       → k .okay p ≡ true
       → k .whole p ≡ some l
       → length l ≤ k .listMax
-
-unfoldable pub toKnown : ℕ → List ℕ → List ℕ
-toKnown p m = only (isGood (answerOf m)) p
 
 saved-one : {E : Type 0} (old : Record E) (p : ℕ) (m : List ℕ) → length (toSaved old p m) ≤ 1
 unfolding toSaved
@@ -713,18 +710,18 @@ module _ (k : Kind) (w : List ℕ) (old : Record (k .Entry)) where
           (vd : Verdict) (st : Stage P) (d : ℕ) (f : Option ℕ) (t : ℕ) (m : List ℕ) (sent : List Command)
           → Facts st sent
           → (vd ≡ taken → seeFull k w old st m ≡ false)
-          → Inv (counts k w old vd (at st d f) (seeMessage k w old st (at st d f) t m))
+          → Inv (unlessRefused k w old vd (at st d f) (seeMessage k w old st (at st d f) t m))
           (settle (ran (mk (at st d f)) sent) (gate k vd (onMessage k (phaseOf st) (mk (at st d f)) t m)))
-      unfolding counts gate settle
+      unfolding unlessRefused gate settle
       message-by taken st d f t m sent h e = message-lands st d f t m sent h (e refl)
       message-by (refuse n) st d f t m sent h e = record { same = refl; facts = h }
 
       tick-by :
           (vd : Verdict) (st : Stage P) (d : ℕ) (f : Option ℕ) (t : ℕ) (sent : List Command)
           → Facts st sent
-          → Inv (counts k w old vd (at st d f) (seeTick k w old st (at st d f) t))
+          → Inv (unlessRefused k w old vd (at st d f) (seeTick k w old st (at st d f) t))
           (settle (ran (mk (at st d f)) sent) (gate k vd (onTick k (phaseOf st) (mk (at st d f)) t)))
-      unfolding counts gate settle
+      unfolding unlessRefused gate settle
       tick-by taken st d f t sent h = tick-lands st d f t sent h
       tick-by (refuse n) st d f t sent h = record { same = refl; facts = h }
 
@@ -744,7 +741,7 @@ module _ (k : Kind) (w : List ℕ) (old : Record (k .Entry)) where
           let x : Result P E = onMessage k (phaseOf st) s t m in
           subst
           (λ (z : Result P E).
-          Inv (counts k w old vd (at st d f) (seeMessage k w old st (at st d f) t m)) (settle (ran s sent) z))
+          Inv (unlessRefused k w old vd (at st d f) (seeMessage k w old st (at st d f) t m)) (settle (ran s sent) z))
           (passed (wellFormed k s) vd x (formed st d f (h .fit))
           ∙ ap (λ z. gate k (unless (not (wellFormed k s)) 16 (vetMessage t m room z)) x) (sym (same-full st m)))
           (message-by vd st d f t m sent h (vet-message t m room (seeFull k w old st m)))
@@ -754,7 +751,7 @@ module _ (k : Kind) (w : List ℕ) (old : Record (k .Entry)) where
           let x : Result P E = onTick k (phaseOf st) s t in
           subst
           (λ (z : Result P E).
-          Inv (counts k w old vd (at st d f) (seeTick k w old st (at st d f) t)) (settle (ran s sent) z))
+          Inv (unlessRefused k w old vd (at st d f) (seeTick k w old st (at st d f) t)) (settle (ran s sent) z))
           (passed (wellFormed k s) vd x (formed st d f (h .fit)))
           (tick-by vd st d f t sent h)
       call-lands (firmware n) st d f sent h =
@@ -822,6 +819,27 @@ module _ (k : Kind) (w : List ℕ) (old : Record (k .Entry)) where
       → brought f (answers st) (enables sent) ≡ brought f (answers st) (owedOf (k .pgnOf) w old (listRead st))
   sent-brought f st sent e = ap (brought f (answers st)) e ∙ brought-take f (answers st) (owedOf (k .pgnOf) w old (listRead st))
 
+  known-list :
+      (l : List ℕ) (b : Bool) (ms : List (List ℕ)) (es : List ℕ)
+      → es ≡ take (suc (length ms)) (owed (k .pgnOf) w l old)
+      → knownAfter l b ms ≡ knownFrom (some l) b old ms es
+  unfolding knownFrom
+  known-list l b ms es e =
+      ap {B = Known} (λ x. record { isRead = true; isWhole = b; pgns = notes (notes l (old .present)) x })
+      (sym (ap (brought toKnown ms) e ∙ brought-take toKnown ms (owed (k .pgnOf) w l old)))
+
+  known-told :
+      (st : Stage P) (es : List ℕ)
+      → es ≡ take (suc (length (answers st))) (owedOf (k .pgnOf) w old (listRead st))
+      → knownOf st ≡ knownFrom (listRead st) (wholeRead st) old (answers st) es
+  unfolding knownFrom listRead wholeRead answers owedOf
+  known-told (reads r) es e = refl
+  known-told unread es e = refl
+  known-told (asks l b ms) es e = known-list l b ms es e
+  known-told (commits l b ms) es e = known-list l b ms es e
+  known-told (activates l b ms) es e = known-list l b ms es e
+  known-told (over l b ms a) es e = known-list l b ms es e
+
   done-told : (st : Stage P) → isDone (phaseOf st) ≡ isOver st
   unfolding isDone isOver
   done-told (reads r) = refl
@@ -850,6 +868,8 @@ module _ (k : Kind) (w : List ℕ) (old : Record (k .Entry)) where
             ∙ ap (λ x. old .refused ++ x) (sym (sent-brought (toRefused (k .entry)) st (r .sent) e));
         asked = e;
         bounded = omega (arith, h .facts .few, cost-bound st (h .facts .fit));
+        wants = ap (λ s. s .wanted) (h .same);
+        known = ap (λ s. s .known) (h .same) ∙ known-told st (enables (r .sent)) e;
         finished = ap (λ s. isDone (s .phase)) (h .same) ∙ done-told st;
       }
 

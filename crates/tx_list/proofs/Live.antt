@@ -13,7 +13,7 @@ use lib.Seq.{take-all}
 use Rattle.tx_list.specs.Views.{has, notes, only, isFresh, answerOf, F2, F1, adds, ends, neither, f1Of, added, isAnswer, Ack}
 use Rattle.tx_list.specs.Reading.{Command, read1, read40, read4F, enable, commit, activate, Kind, Call, message, tick, firmware, await, waits, second, first, Turn, readMessage, readTick, onMode, onF1, onF2, onWhole, whenDue, opens, start1, start2, full, Verdict, taken, refuse, unless, vetMessage, vetTick}
 use Rattle.tx_list.specs.Session.{Record, Known, Phase, reading, enabling, committing, activating, done, Session, Result, did, refuses, Ran, silent, lacks, lacksBy, step, settle, run, gate, onMessage, onTurn, onAnswer, onCommit, onActivate, onTick, expire, full14, opened, onNext, onFirmware, AllLe, oldBounds, begins}
-use Rattle.tx_list.specs.Observer.{Stage, reads, asks, commits, activates, over, Observer, listRead, answers, brought, toSaved, freshOf, watching, goOn, seenRead, seeTurn, seeAnswered, seeAnswer, seeCommit, seeActivate, seeMessage, seeTick, seeFull, counts, see, seeAll}
+use Rattle.tx_list.specs.Observer.{Stage, reads, asks, commits, activates, over, Observer, listRead, answers, brought, toSaved, freshOf, watching, goOn, seenRead, seeTurn, seeAnswered, seeAnswer, seeCommit, seeActivate, seeMessage, seeTick, seeFull, unlessRefused, see, seeAll}
 use Rattle.tx_list.specs.Demand.{owedOf, gained, wantedOf, oldOf}
 use Rattle.tx_list.specs.Live.{others, asksList, closes, Gateway, inTwo, TellsFirst, Unwhole, Tells, setting, Mixed, end, next, idle, lost, Idle, Dull, NotDue, Said, isPage, said, saids, texts, listed, Each, Fair, owes, fresh, ending, startUp, Helpful, Started, Live}
 use Rattle.tx_list.proofs.Lists.{length-snoc, owed-length, brought-snoc}
@@ -104,9 +104,9 @@ module _ (k : Kind) (w : List ℕ) (old : Record (k .Entry)) where
       → Fair x
       → seeFull k w old (v .stage) (x .bytes) ≡ false
       → see k w old v (said x) ≡ seeMessage k w old (v .stage) v (x .time) (x .bytes)
-  unfolding see counts
+  unfolding see unlessRefused
   seen v x h e =
-      ap (λ (q : Verdict). counts k w old q v (seeMessage k w old (v .stage) v (x .time) (x .bytes)))
+      ap (λ (q : Verdict). unlessRefused k w old q v (seeMessage k w old (v .stage) v (x .time) (x .bytes)))
       (ap (vetMessage (x .time) (x .bytes) (x .room)) e ∙ fair-taken x h)
 
   -- where calls lead, and what they write besides enable commands
@@ -488,11 +488,11 @@ module _ (k : Kind) (w : List ℕ) (old : Record (k .Entry)) where
           (d : ℕ)
           → d ≤ g .pause
           → Leads (at (reads waits) d) (tick (g .pause) (g .room) ∷ (saids (g .pages) ++ afterPages)) goal (asksList b ++ out)
-      unfolding see counts
+      unfolding see unlessRefused
       tick-ends d e =
           let v : Observer (k .Parts) = at (reads waits) d in
           first-then v (at (begun b) (g .pause + 10000)) (tick (g .pause) (g .room)) (saids (g .pages) ++ afterPages) goal (asksList b) out
-          (ap (λ (y : Verdict). counts k w old y v (seeTick k w old (reads waits) v (g .pause))) (tick-taken (g .pause) (g .room) (h .pause-early) (h .roomy))
+          (ap (λ (y : Verdict). unlessRefused k w old y v (seeTick k w old (reads waits) v (g .pause))) (tick-taken (g .pause) (g .room) (h .pause-early) (h .roomy))
           ∙ tick-turn d (g .pause) e)
           (λ r i. ap others (tick-sent v r (g .pause) (g .room) i (h .pause-early) (h .roomy)) ∙ tick-asks d (g .pause) e)
           (begun-ends b (g .pause + 10000) refl (h .tells))

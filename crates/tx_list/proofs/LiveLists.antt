@@ -11,9 +11,8 @@ use lib.ListN.{length}
 use Rattle.tx_list.specs.Views.{has, only, note, notes, Answer, enabled, there, denied, answerOf, isAnswer, isGood, isDenied}
 use Rattle.tx_list.specs.Session.{Record, owed}
 use Rattle.tx_list.specs.Observer.{brought}
-use Rattle.tx_list.specs.Demand.{toRefused}
+use Rattle.tx_list.specs.Demand.{toRefused, toKnown}
 use Rattle.tx_list.specs.Live.{Said, Fair, Each, texts}
-use Rattle.tx_list.proofs.Demand3.{toKnown}
 
 or-true : (a : Bool) → (a || true) ≡ true
 or-true true = refl

@@ -6,10 +6,10 @@ use mathlib.Core.List.{List, [], _∷_, _++_}
 use mathlib.Core.Option.{Option, none, some}
 use Prim.Native.Nat.{ℕ, suc, _+_, _≤_}
 use lib.ListN.{length, take}
-use Rattle.tx_list.specs.Views.{only, answerOf, isDenied, isThere}
+use Rattle.tx_list.specs.Views.{only, notes, answerOf, isDenied, isThere, isGood}
 use Rattle.tx_list.specs.Reading.{Command, read1, read40, read4F, enable, commit, activate, Kind, Call}
-use Rattle.tx_list.specs.Session.{Record, owed, Session, Result, did, Ran, begin, restart, run, isDone}
-use Rattle.tx_list.specs.Observer.{Stage, listRead, answers, activated, isOver, brought, toSaved, watching, seeAll}
+use Rattle.tx_list.specs.Session.{Record, Known, unknown, owed, Session, Result, did, Ran, begin, restart, run, isDone}
+use Rattle.tx_list.specs.Observer.{Stage, listRead, wholeRead, answers, activated, isOver, brought, toSaved, watching, seeAll}
 
 -- "the PGNs of the enable commands answered .. whose answer calls for that list": what one answer m to the enable command of p calls for
 unfoldable pub toPresent : ℕ → List ℕ → List ℕ
@@ -33,6 +33,15 @@ enables (enable p ∷ cs) = p ∷ enables cs
 enables (commit ∷ cs) = enables cs
 enables (activate ∷ cs) = enables cs
 
+-- "Either good answer adds the PGN to known, if a list is known and lacks it."
+unfoldable pub toKnown : ℕ → List ℕ → List ℕ
+toKnown p m = only (isGood (answerOf m)) p
+
+-- "known = list plus absent present PGNs", then what the answers ms to the enable commands of es add; none before a list is read
+unfoldable pub knownFrom : {E : Type 0} → Option (List ℕ) → Bool → Record E → List (List ℕ) → List ℕ → Known
+knownFrom none b old ms es = unknown
+knownFrom (some l) b old ms es = record { isRead = true; isWhole = b; pgns = notes (notes l (old .present)) (brought toKnown ms es) }
+
 -- "new savings stand only once activation is answered"
 unfoldable pub gained : Bool → List ℕ → List ℕ → List ℕ
 gained true s new = s ++ new
@@ -54,7 +63,10 @@ module _ (k : Kind) (w : List ℕ) (old : Record (k .Entry)) where
     pub asked : enables (r .sent) ≡ take (suc (length (answers st))) (owedOf (k .pgnOf) w old (listRead st))
     -- "With W wanted, at most W + 11 commands are sent."
     pub bounded : length (r .sent) ≤ length w + 11
-    -- and the session is done when the observer says so
+    -- beyond the demand: what is wanted stays, the known list is the list read with what the answers add, and the session is done when
+    -- the observer says so
+    pub wants : r .session .wanted ≡ w
+    pub known : r .session .known ≡ knownFrom (listRead st) (wholeRead st) old (answers st) (enables (r .sent))
     pub finished : isDone (r .session .phase) ≡ isOver st
 
   -- what happened in the calls, from the beginning

@@ -1,4 +1,4 @@
--- Liveness: with a helpful gateway the start-up ends with every wanted PGN enabled.
+-- Liveness: with a helpful gateway the start-up ends done, with every wanted PGN that was not refused before on the known list.
 -- Assumes nothing.
 use mathlib.Core.Path.{_≡_}
 use mathlib.Core.Bool.{Bool, true, false, _&&_}

@@ -37,6 +37,15 @@ listRead (commits l b ms) = some l
 listRead (activates l b ms) = some l
 listRead (over l b ms a) = some l
 
+-- whether the list read is whole: read in Format 2
+unfoldable pub wholeRead : {P : Type 0} → Stage P → Bool
+wholeRead (reads r) = false
+wholeRead unread = false
+wholeRead (asks l b ms) = b
+wholeRead (commits l b ms) = b
+wholeRead (activates l b ms) = b
+wholeRead (over l b ms a) = b
+
 unfoldable pub answers : {P : Type 0} → Stage P → List (List ℕ)
 answers (reads r) = []
 answers unread = []
@@ -148,14 +157,14 @@ module _ (k : Kind) (w : List ℕ) (old : Record (k .Entry)) where
   seeFull (activates l b ms) m = false
   seeFull (over l b ms a) m = false
 
-  -- "a message or tick refused with all unchanged counts everywhere as never given"
-  unfoldable pub counts : Verdict → W → W → W
-  counts taken v x = x
-  counts (refuse n) v x = v
+  -- "a message or tick refused with all unchanged unlessRefused everywhere as never given"
+  unfoldable pub unlessRefused : Verdict → W → W → W
+  unlessRefused taken v x = x
+  unlessRefused (refuse n) v x = v
 
   unfoldable pub see : W → Call → W
-  see v (message t m room) = counts (vetMessage t m room (seeFull (v .stage) m)) v (seeMessage (v .stage) v t m)
-  see v (tick t room) = counts (vetTick t room) v (seeTick (v .stage) v t)
+  see v (message t m room) = unlessRefused (vetMessage t m room (seeFull (v .stage) m)) v (seeMessage (v .stage) v t m)
+  see v (tick t room) = unlessRefused (vetTick t room) v (seeTick (v .stage) v t)
   see v (firmware f) = record { stage = v .stage; due = v .due; version = some f }
 
   unfoldable pub seeAll : W → List Call → W
