@@ -1,5 +1,6 @@
 // Whether a session's counts are well formed (document 01, "State is not well formed when"; number 16): a count over its capacity,
 // enabling with nothing owed, a sum or record list over its bound. Over any limits; no function requires anything.
+use field::sum_fits;
 use tx_list::State;
 ghost use mathlib.Core.Path.{_≡_};
 ghost use mathlib.Core.Bool.{_&&_};
@@ -29,23 +30,13 @@ pub struct Counts {
     pub refused: usize,
 }
 
-// Whether a + b is at most cap.
-fn fits2(a: usize, b: usize, cap: usize) -> bool
-    ensures { λ r. ⌜ r ≡ leb (a + b) cap ⌝ }
-{
-    if cap < a {
-        return false;
-    }
-    b <= cap - a
-}
-
 fn fits3(a: usize, b: usize, c: usize, cap: usize) -> bool
     ensures { λ r. ⌜ r ≡ leb (a + (b + c)) cap ⌝ }
 {
     if cap < a {
         return false;
     }
-    fits2(b, c, cap - a)
+    sum_fits(b, c, cap - a)
 }
 
 fn counts_fit(l: Limits, c: Counts) -> bool
@@ -71,10 +62,10 @@ pub fn lists_fit(saved: usize, present: usize, refused: usize) -> bool
 fn enabling_fits(l: Limits, c: Counts) -> bool
     ensures { λ r. ⌜ r ≡ sumsFit l c State.Enabling ⌝ }
 {
-    let fresh = fits2(c.fresh, c.owed, l.wanted);
-    let known = fits2(c.known, c.owed, l.known);
-    let present = fits2(c.present, c.owed, 256);
-    let refused = fits2(c.refused, c.owed, 256);
+    let fresh = sum_fits(c.fresh, c.owed, l.wanted);
+    let known = sum_fits(c.known, c.owed, l.known);
+    let present = sum_fits(c.present, c.owed, 256);
+    let refused = sum_fits(c.refused, c.owed, 256);
     let saved = fits3(c.saved, c.fresh, c.owed, 256);
     fresh & known & present & refused & saved
 }
@@ -88,8 +79,8 @@ fn sums_fit(l: Limits, c: Counts, st: State) -> bool
         State::Reading(_) => lists_fit(c.saved, c.present, c.refused),
         State::ReadingF2(_) => lists_fit(c.saved, c.present, c.refused),
         State::Enabling => enabling_fits(l, c),
-        State::Committing => fits2(c.saved, c.fresh, 256),
-        State::Activating => fits2(c.saved, c.fresh, 256),
+        State::Committing => sum_fits(c.saved, c.fresh, 256),
+        State::Activating => sum_fits(c.saved, c.fresh, 256),
         State::Done => true,
     }
 }

@@ -5,3 +5,4 @@ pub mod Records
 pub mod Commands
 pub mod Rows
 pub mod Listing
+pub mod Session

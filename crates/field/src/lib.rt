@@ -2,6 +2,8 @@
 // Framing, records, replies, commands and lists stand above it; specs/ has the definitions and laws that they share.
 // No function here requires anything: a byte past the end of a slice counts as 0.
 ghost use mathlib.Core.Path.{_≡_};
+ghost use Prim.Native.Nat.{_+_};
+ghost use lib.Dec.{leb};
 ghost use lib.ListN.{getD};
 ghost use Rattle.field.specs.Fields.{field, bytesOf, signed32};
 
@@ -54,6 +56,16 @@ pub fn i32_at(s: &[u8], at: usize) -> i32
     ensures { λ r. ⌜ r ≡ signed32 (field (now (s .entry)) at 4) ⌝ }
 {
     signed(u32_at(s, at))
+}
+
+// Whether a + b is at most cap; the sum itself need not fit.
+pub fn sum_fits(a: usize, b: usize, cap: usize) -> bool
+    ensures { λ r. ⌜ r ≡ leb (a + b) cap ⌝ }
+{
+    if cap < a {
+        return false;
+    }
+    b <= cap - a
 }
 
 // The bytes of a number.

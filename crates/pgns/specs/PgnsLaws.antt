@@ -14,6 +14,7 @@ use Rattle.field.specs.WrittenLaws.{sets-written}
 use Rattle.tx_list.specs.Views.{has, only, note, notes, least}
 use Rattle.tx_list.specs.Session.{Record, owed}
 use Rattle.tx_list.specs.Memory.{Buf, fill}
+use Rattle.tx_list.proofs.Lists.{only-length}
 use Rattle.pgns.specs.Lists.{told, noted, owedIn}
 
 -- A PGN alone, or nothing
@@ -25,11 +26,6 @@ only-true x e = rw e
 pub only-false : {A : Type 0} {b : Bool} (x : A) → b ≡ false → only b x ≡ []
 unfolding only
 only-false x e = rw e
-
-pub only-length : {A : Type 0} (b : Bool) (x : A) → length (only b x) ≤ 1
-unfolding only
-only-length true x = omega arith
-only-length false x = omega arith
 
 -- The lesser of two numbers
 
@@ -44,14 +40,6 @@ least-high a b h = go (leb a b) refl
     go : (t : Bool) → leb a b ≡ t → pick (leb a b) a b ≡ b
     go true e = let l : a ≤ b = leb-true a b e in rw e (omega arith)
     go false e = rw e
-
--- a test with a sum, as a test with a difference
-pub leb-shift : (a b cap : ℕ) → a ≤ cap → leb b (cap - a) ≡ leb (a + b) cap
-leb-shift a b cap h = go (leb b (cap - a)) refl
-  where
-    go : (t : Bool) → leb b (cap - a) ≡ t → leb b (cap - a) ≡ leb (a + b) cap
-    go true e = e ∙ sym (le-leb (a + b) cap (omega (arith, leb-true b (cap - a) e)))
-    go false e = e ∙ sym (lt-leb (a + b) cap (omega (arith, leb-false b (cap - a) e)))
 
 -- Known PGNs
 
@@ -71,9 +59,6 @@ unfolding fresh
 fresh-length l [] = omega arith
 fresh-length l (p ∷ ps) =
     rw length-append (omega (arith, only-length (not (has p l)) p, fresh-length (note l p) ps))
-
-pub notes-length : (l ps : List ℕ) → length (notes l ps) ≤ length l + length ps
-notes-length l ps = rw (notes-front l ps, length-append) (omega (arith, fresh-length l ps))
 
 -- a list written where a shorter one, its front, was written
 pub sets-over : (items l xs : List ℕ) → length l + length xs ≤ length items → sets (sets items 0 l) 0 (l ++ xs) ≡ sets items 0 (l ++ xs)
@@ -100,13 +85,6 @@ unfolding owed
 owed-saved g [] l r s = refl
 owed-saved g (p ∷ ps) l r s =
     ap (λ (o : List ℕ). only (not (has p l) && not (has p (r .present)) && not (has p (map g (r .refused)))) p ++ o) (owed-saved g ps l r s)
-
-pub owed-length : {E : Type 0} (g : E → ℕ) (w l : List ℕ) (r : Record E) → length (owed g w l r) ≤ length w
-unfolding owed
-owed-length g [] l r = omega arith
-owed-length g (p ∷ ps) l r =
-    rw length-append
-    (omega (arith, only-length (not (has p l) && not (has p (r .present)) && not (has p (map g (r .refused)))) p, owed-length g ps l r))
 
 -- What a caller learns where there is room
 

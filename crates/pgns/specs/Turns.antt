@@ -16,7 +16,8 @@ use Rattle.field.specs.WrittenLaws.{sets-written}
 use Rattle.tx_list.specs.Views.{has, only, note, notes, least, pgnsAt}
 use Rattle.tx_list.specs.Session.{owed}
 use Rattle.pgns.specs.Lists.{told, noted, owedOf, owedIn, skips}
-use Rattle.pgns.specs.PgnsLaws.{only-true, only-false, only-length, least-low, least-high}
+use Rattle.pgns.specs.PgnsLaws.{only-true, only-false, least-low, least-high}
+use Rattle.tx_list.proofs.Lists.{only-length}
 
 -- The first n
 

@@ -8,6 +8,7 @@ ghost use lib.Seq.{sets};
 ghost use lib.Dec.{leb};
 ghost use Rattle.tx_list.specs.Views as view;
 ghost use Rattle.pgns.specs.Lists.{told, noted, owedOf, owedIn, skips};
+use field::sum_fits;
 
 fn least(a: usize, b: usize) -> usize
     ensures { λ r. ⌜ r ≡ view.least a b ⌝ }
@@ -106,21 +107,12 @@ fn note_each(known: &mut [u32], n: usize, src: &[u32]) -> usize
     k
 }
 
-fn fits2(a: usize, b: usize, cap: usize) -> bool
-    ensures { λ r. ⌜ r ≡ leb (a + b) cap ⌝ }
-{
-    if cap < a {
-        return false;
-    }
-    b <= cap - a
-}
-
 // The first m of src noted among the first n of known: each that is absent is added once; answers the new count.
 // Without room for n + m nothing is done and n is answered.
 pub fn note_all(known: &mut [u32], n: usize, src: &[u32], m: usize) -> usize
     ensures { λ r. ⌜ told r (now (known .exit)) ≡ noted (now (known .entry)) n (now (src .entry)) m ⌝ }
 {
-    if fits2(n, m, known.len()) {
+    if sum_fits(n, m, known.len()) {
         note_each(known, n, first(src, m))
     } else {
         n
@@ -131,7 +123,7 @@ pub fn note_all(known: &mut [u32], n: usize, src: &[u32], m: usize) -> usize
 fn onward(at: usize, k: usize, end: usize) -> usize
     ensures { λ r. ⌜ r ≡ view.least (at + k) end ⌝ }
 {
-    if fits2(at, k, end) { at + k } else { end }
+    if sum_fits(at, k, end) { at + k } else { end }
 }
 
 // n PGNs of four bytes of m, from byte `from` on, at the places from `at` on; bytes past the end count as 0.

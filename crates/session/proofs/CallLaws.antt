@@ -17,8 +17,8 @@ use Rattle.tx_list.specs.Session.{Record, isDone, allLe, oldBounds, begins, lac
 use Rattle.tx_list.specs.Stored as stored
 use Rattle.tx_list.specs.Stored.{Answer, new, again, opens}
 use Rattle.tx_list.specs.Memory.{Flat, Sized, phaseIn, absFlat, writeFlat}
-use Rattle.tx_list.specs.Moves.{Moved, soundIn, fullIn, oldIn, heard, ticked, withFirmware, givesUp, starts′, judgeMessage, judgeTick, judgeState, judgeRestart, told}
-use Rattle.tx_list.proofs.MemoryLists.{left-true, right-true}
+use Rattle.tx_list.specs.Moves.{Moved, soundIn, fullIn, oldIn, heard, ticked, withFirmware, givesUp, startsOver, judgeMessage, judgeTick, judgeState, judgeRestart, told}
+use Rattle.field.specs.Tests.{left-true, right-true, and-true, and-assoc}
 use Rattle.tx_list.proofs.MovesSound.{sound-is}
 use Rattle.tx_list.proofs.MovesLaws.{message-law, tick-law, firmware-law, restart-law, abandon-law, begin-law}
 use Rattle.session.specs.declared.TxListSync.{TxListSync}
@@ -140,12 +140,12 @@ pub restart-by :
     (s : TxListSync) (v : Verdict)
     → Sized kind (ofSync s)
     → judgeRestart kind (ofSync s) ≡ v
-    → begunBy v s (starts′ kind (ofSync s)) ≡ restarted s
+    → begunBy v s (startsOver kind (ofSync s)) ≡ restarted s
 restart-by s v z e =
     sym
     (ap begun (restart-law kind TxListSync ofSync toSync clear frameOf s z)
-    ∙ begun-by (judgeRestart kind (ofSync s)) s (quietly (starts′ kind (ofSync s)))
-    ∙ ap (λ (w : Verdict). begunBy w s (starts′ kind (ofSync s))) e)
+    ∙ begun-by (judgeRestart kind (ofSync s)) s (quietly (startsOver kind (ofSync s)))
+    ∙ ap (λ (w : Verdict). begunBy w s (startsOver kind (ofSync s))) e)
 
 -- begin
 pub begin-by :
@@ -191,14 +191,6 @@ pub lacks-by : (s : TxListSync) (p : ℕ) (y : Bool) → Sized kind (ofSync s) �
 lacks-by s p y z e = ap (λ (x : Bool). pick x (says (lacks (absFlat (ofSync s) .known) p)) (refused 16)) (sound-by s z ∙ e)
 
 -- 12, by the counts of the record
-
-and-true : (a : Bool) → (a && true) ≡ a
-and-true true = refl
-and-true false = refl
-
-and-assoc : (a b c : Bool) → ((a && b) && c) ≡ (a && (b && c))
-and-assoc true b c = refl
-and-assoc false b c = refl
 
 old-same : (r : TxListRecord) → recordFits r ≡ ((leb (r .saved .n) 192) && ((leb (r .present .n) 192) && ((leb (r .refused .n) 192) && true)))
 old-same r = simp (and-assoc, and-true)

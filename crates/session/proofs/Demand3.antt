@@ -38,17 +38,10 @@ use Rattle.session.specs.declared.Called.{Called}
 use Rattle.session.specs.declared.Begun.{Begun}
 use Rattle.session.specs.Sync.{kind, store, clear, ofSync, toSync, put, frameOf, payloadOf, Told, toldCalled, gave, called, begun, setTo, restarted, begunWith}
 use Rattle.session.specs.SyncLaws.{of-to}
+use Rattle.session.specs.ReadingLaws.{put-formed}
 use Rattle.session.specs.Played.{Played, none, message′, tick′, firmware′, Reads, Kept, Demand3}
 
 -- the kind is lawful
-
-put-by : (t : Bool) (m : List ℕ) (p : F2List) → formed p ≡ true → formed (pick t (addSupported (dataOf m) p) (addEnabled (dataOf m) p)) ≡ true
-put-by true m p e = formed-supported (dataOf m) p e
-put-by false m p e = formed-enabled (dataOf m) p e
-
-put-formed : (m : List ℕ) (p : F2List) → formed p ≡ true → formed (put m p) ≡ true
-unfolding put
-put-formed m p e = put-by (starts 0x40 m) m p e
 
 pub lawful : Lawful kind
 lawful =
@@ -77,7 +70,7 @@ told-bytes a out left r e =
     let o : left ≡ written (a .bytes) out = ap (λ (t : Told). t .out) e in
     ap (λ (k : ℕ). take k left) n ∙ ap (take (length (a .bytes))) o ∙ take-append-seam (a .bytes) (drop (length (a .bytes)) out)
 
-abbrev from : TxListSync → List ℕ → Ran′ kind store
+abbrev pub from : TxListSync → List ℕ → Ran′ kind store
 from s bytes = record { kept = s; bytes = bytes }
 
 -- setting the firmware writes nothing
@@ -104,7 +97,7 @@ unfolding runs then
 run-on s next last x calls before wrote bytes k w e =
     (λ i. runs kind store (from (sym k i) (before ++ sym w i)) calls) ∙ e ∙ ap (from last) (append-assoc before wrote bytes)
 
-played-runs :
+pub played-runs :
     {s last : TxListSync} {calls : List Call} {bytes : List ℕ} (before : List ℕ)
     → Played s calls last bytes
     → runs kind store (from s before) calls ≡ from last (before ++ bytes)
@@ -135,7 +128,7 @@ payload-short (enable p) = omega arith
 payload-short commit = omega arith
 payload-short activate = omega arith
 
-reads-wire : (cs : List Command) (d : decoder.State) → Ready base d → Reads d (wire kind store cs) cs
+pub reads-wire : (cs : List Command) (d : decoder.State) → Ready base d → Reads d (wire kind store cs) cs
 unfolding wire frameOf
 reads-wire [] d r = refl
 reads-wire (c ∷ cs) d r =

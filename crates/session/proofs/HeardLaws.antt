@@ -13,7 +13,7 @@ use Rattle.tx_list.specs.Views.{f1Of, f2Of}
 use Rattle.tx_list.specs.Session.{allLe, AllLe, knownMax}
 use Rattle.tx_list.specs.Memory.{counts}
 use Rattle.tx_list.specs.Moves.{formatIn, owesIn, sumsIn, soundIn, fullIn, inF1, inF2, heard}
-use Rattle.tx_list.proofs.MemoryLists.{left-true}
+use Rattle.field.specs.Tests.{left-true}
 use Rattle.tx_list.proofs.MovesSound.{sound-counts, sound-owes, sound-sums}
 use Rattle.session.specs.declared.TxListSync.{TxListSync}
 use Rattle.session.specs.declared.write.Step.{Step}

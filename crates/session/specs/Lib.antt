@@ -3,6 +3,7 @@ pub mod Sync
 pub mod Sound
 pub mod SyncLaws
 pub mod Played
+pub mod StartUp
 pub mod AnswersLaws
 pub mod WriteLaws
 pub mod OpeningLaws

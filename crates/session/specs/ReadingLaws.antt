@@ -14,7 +14,8 @@ use Rattle.field.specs.Pick.{pick}
 use Rattle.field.specs.WrittenLaws.{sets-written}
 use Rattle.replies.specs.Bem.{dataOf}
 use Rattle.pgns.specs.Lists.{told, noted, owedOf, owedIn}
-use Rattle.pgns.specs.PgnsLaws.{owed-saved, owed-length, fresh, fresh-length, notes-front, notes-after-fill}
+use Rattle.tx_list.proofs.Lists.{owed-length}
+use Rattle.pgns.specs.PgnsLaws.{owed-saved, fresh, fresh-length, notes-front, notes-after-fill}
 use Rattle.views.specs.declared.F1Kind.{F1Kind}
 use Rattle.views.specs.declared.F1Kind.the-variants.{Adds}
 use Rattle.views.specs.declared.F2Kind.{F2Kind}

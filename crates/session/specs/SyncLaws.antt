@@ -3,16 +3,19 @@ use Prim.Native.Nat.{ℕ, _+_}
 use mathlib.Core.Path.{_≡_, refl, sym, ap, ap₂, _∙_}
 use mathlib.Core.Bool.{Bool, true, false, _&&_}
 use lib.Dec.{leb}
+use Rattle.field.specs.Tests.{and-true, and-assoc}
 use Rattle.lists.specs.declared.F2List.{F2List}
 use Rattle.lists.specs.Format2.{formed}
-use Rattle.tx_list.specs.Session.{allLe, knownMax}
+use Rattle.tx_list.specs.Session.{allLe, knownMax, silent, fromWhole, fromPart}
 use Rattle.tx_list.specs.Memory.{Flat, counts}
 use Rattle.tx_list.specs.Moves.{formatIn, owesIn, sumsIn, soundIn}
 use Rattle.tx_list.specs.declared.State.{State}
 use Rattle.tx_list.specs.declared.State.the-variants.{AwaitStartup, ReadAt, ReadingF2, Reading as ReadingF1, Enabling, Committing, Activating, Done}
 use Rattle.bounds.specs.Bounds.{countsFit, sumsFit, soundAt}
 use Rattle.session.specs.declared.TxListSync.{TxListSync}
-use Rattle.session.specs.Sync.{kind, ofSync, toSync}
+use Rattle.session.specs.declared.Lacks.{Lacks}
+use Rattle.session.specs.declared.Lacks.the-variants.{Nothing as SaysNothing, Whole, Partial, Refused}
+use Rattle.session.specs.Sync.{kind, ofSync, toSync, Said, says, refused, toldLacks}
 use Rattle.session.specs.Sound.{helm, countsOf}
 
 -- the names of the fields, there and back
@@ -21,14 +24,6 @@ of-to h = refl
 
 pub to-of : (s : TxListSync) → toSync (ofSync s) ≡ s
 to-of s = refl
-
-and-true : (a : Bool) → (a && true) ≡ a
-and-true true = refl
-and-true false = refl
-
-and-assoc : (a b c : Bool) → ((a && b) && c) ≡ (a && (b && c))
-and-assoc true b c = refl
-and-assoc false b c = refl
 
 counts-same : (s : TxListSync) → countsFit helm (countsOf (s .held)) ≡ (formed (s .held .f2) && allLe (counts kind (ofSync s)))
 unfolding formed knownMax
@@ -49,3 +44,19 @@ pub sound-same : (s : TxListSync) → soundAt helm (countsOf (s .held)) (s .stat
 unfolding soundIn
 sound-same s =
     ap₂ (λ (x y : Bool). x && (formatIn true (s .state) && (owesIn (s .state) (s .held .owed .n) && y))) (counts-same s) (sums-same s (s .state))
+
+-- what `lacks` says loses nothing
+abbrev lacksBack : Said → Lacks
+lacksBack (says silent) = SaysNothing
+lacksBack (says fromWhole) = Whole
+lacksBack (says fromPart) = Partial
+lacksBack (refused n) = Refused n
+
+back-told : (a : Lacks) → lacksBack (toldLacks a) ≡ a
+back-told SaysNothing = refl
+back-told Whole = refl
+back-told Partial = refl
+back-told (Refused n) = refl
+
+pub lacks-tells : (a b : Lacks) → toldLacks a ≡ toldLacks b → a ≡ b
+lacks-tells a b e = sym (back-told a) ∙ ap lacksBack e ∙ back-told b

@@ -18,7 +18,7 @@ ghost use lib.ListN.{length, replicate};
 ghost use mathlib.Core.Bool.{true};
 ghost use Rattle.tx_list.specs.Session.{begins, lacks};
 ghost use Rattle.tx_list.specs.Memory.{live, fill, writeFlat};
-ghost use Rattle.tx_list.specs.Moves.{starts′, withFirmware};
+ghost use Rattle.tx_list.specs.Moves.{startsOver, withFirmware};
 ghost use Rattle.session.specs.Sync.{kind, clear, of256, to256, ofSync, toSync, recordOf, knownOf, doneIn, says, toldLacks};
 
 // A session that wants nothing and knows nothing.
@@ -117,7 +117,7 @@ pub(crate) fn new_sync(wanted: &[u32], learned: TxListRecord) -> TxListSync
 }
 
 pub(crate) fn started_over(s: TxListSync) -> TxListSync
-    ensures { λ r. ⌜ r ≡ toSync (starts′ kind (ofSync s)) ⌝ }
+    ensures { λ r. ⌜ r ≡ toSync (startsOver kind (ofSync s)) ⌝ }
 {
     let mut h = s.held;
     h.known.read = false;

@@ -7,7 +7,7 @@ use lists::F2List;
 use tx_list::State;
 ghost use mathlib.Core.Path.{_≡_};
 ghost use Prim.Native.Nat.{_≤_};
-ghost use Rattle.tx_list.specs.Moves.{startF1, startF2, ends′, givesUp, late, ticked};
+ghost use Rattle.tx_list.specs.Moves.{startF1, startF2, finishes, givesUp, late, ticked};
 ghost use Rattle.session.specs.Sync.{kind, ofSync, toldStep, stepOf};
 
 // Format 1 is asked for, with an empty list.
@@ -49,7 +49,7 @@ pub(crate) fn start_f2(s: TxListSync, attempt: u32, time: u64) -> Step
 
 // The session is done.
 fn finish(s: TxListSync) -> Step
-    ensures { λ r. ⌜ toldStep r ≡ stepOf (ends′ kind (ofSync s)) ⌝ }
+    ensures { λ r. ⌜ toldStep r ≡ stepOf (finishes kind (ofSync s)) ⌝ }
 {
     let h = s.held;
     let sync = TxListSync {

@@ -15,7 +15,8 @@ use Rattle.tx_list.specs.Session.{isDone, Record, Known, unknown, Phase,
 use Rattle.tx_list.specs.Session as model
 use Rattle.tx_list.specs.Observer.{Stage, reads, unread, asks, commits, activates, over, Observer, listRead, answers, activated, isOver, brought, toSaved, freshOf, watching, goOn, seenRead, seeTurn, seeAnswered, seeAnswer, seeCommit, seeActivate, seeMessage, seeLate, seeTick, seeFull, counts, see, seeAll}
 use Rattle.tx_list.specs.Demand.{toPresent, toRefused, owedOf, enables, gained, Claim, happened, Opening, new, again, open-with, wantedOf, oldOf, Demand3}
-use Rattle.tx_list.proofs.Lists.{only-length, brought-snoc, brought-answers, brought-length, owed-length, notes-append, notes-length, drop-next, take-next, drop-count, enables-append, allLe-true, length-snoc, ltb-no, ltb-yes, both-true, left-true, gained-length, allLe-yes, brought-take}
+use Rattle.field.specs.Tests.{both-true, left-true}
+use Rattle.tx_list.proofs.Lists.{only-length, brought-snoc, brought-answers, brought-length, owed-length, notes-append, notes-length, drop-next, take-next, drop-count, enables-append, allLe-true, length-snoc, ltb-no, ltb-yes, gained-length, allLe-yes, brought-take}
 
 -- what a kind must satisfy
 pub record Lawful (k : Kind) : Type 0 where

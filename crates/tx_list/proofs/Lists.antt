@@ -7,6 +7,7 @@ use Prim.Native.Nat.{ℕ, zero, suc, _+_, _≤_, _<_}
 use native.Mathlib.Omega.{arith}
 use lib.Dec.{T, leb, ltb, leb→le, le→leb, ltb→lt, nltb→le}
 use lib.ListN.{length, take, drop, length-append}
+use Rattle.field.specs.Tests.{left-true, right-true}
 use Rattle.tx_list.specs.Views.{has, only, note, notes}
 use Rattle.tx_list.specs.Reading.{Command, read1, read40, read4F, enable, commit, activate}
 use Rattle.tx_list.specs.Session.{Record, owed, allLe, AllLe}
@@ -116,21 +117,10 @@ ltb-no a b e = nltb→le a b (subst (λ (x : Bool). T (not x)) (sym e) tt)
 pub ltb-yes : (a b : ℕ) → ltb a b ≡ true → a < b
 ltb-yes a b e = ltb→lt a b (subst (λ (x : Bool). T x) (sym e) tt)
 
-pub both-true : (a b : Bool) → a ≡ true → b ≡ true → (a && b) ≡ true
-both-true a b p q = rw (p, q) refl
-
 pub gained-length : (a : Bool) (xs ys : List ℕ) → length (gained a xs ys) ≤ length xs + length ys
 unfolding gained
 gained-length true xs ys = omega (arith, length-append xs ys)
 gained-length false xs ys = omega arith
-
-pub left-true : (a b : Bool) → (a && b) ≡ true → a ≡ true
-left-true true b e = refl
-left-true false b e = e
-
-pub right-true : (a b : Bool) → (a && b) ≡ true → b ≡ true
-right-true true b e = e
-right-true false b e = let z : _≡_ {A = ℕ} 0 1 = cc in absurd (omega arith)
 
 pub leb-yes : (a b : ℕ) → leb a b ≡ true → a ≤ b
 leb-yes a b e = leb→le a b (subst (λ (x : Bool). T x) (sym e) tt)

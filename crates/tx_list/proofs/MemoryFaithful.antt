@@ -13,7 +13,8 @@ use Rattle.tx_list.specs.Session as model
 use Rattle.tx_list.specs.Session.{Session, reading, enabling, committing, activating, done, allLe, AllLe, knownMax, wellFormed, countsFit, partsOkay, phaseCounts, owes, sumsFit}
 use Rattle.tx_list.specs.Stored.{Faithful}
 use Rattle.tx_list.specs.Memory.{Buf, live, fill, Flat, phaseIn, stateAs, firmwareBy, toldAs, versionAs, owedAs, freshAs, listAs, partsAs, absFlat, flatAs, writeFlat, counts, Sized, storeBy, clearFlat}
-use Rattle.tx_list.proofs.MemoryLists.{left-true, right-true, both-true, allLe-true, allLe-yes}
+use Rattle.field.specs.Tests.{left-true, right-true, both-true}
+use Rattle.tx_list.proofs.Lists.{allLe-true, allLe-yes}
 
 -- a list that fits is read back
 pub live-fill : {A : Type 0} (b : Buf A) (xs : List A) → length xs ≤ length (b .items) → live (fill b xs) ≡ xs

@@ -15,7 +15,7 @@ use Rattle.tx_list.specs.Reading.{Command, enable, commit, activate, Kin
 use Rattle.tx_list.specs.Session as model
 use Rattle.tx_list.specs.Session.{Record, Known, Session, Result, did, refuses, enabling, committing, done, AllLe, knownMax, becomes, begins, unknown, learn, marked, kept, owed, opened, knowing, onTurn, onNext, onAnswer, onCommit, onActivate, onMessage, onTick, onFirmware, expire}
 use Rattle.tx_list.specs.Memory.{Buf, live, fill, Flat, phaseIn, stateAs, firmwareBy, toldAs, versionAs, owedAs, freshAs, listAs, partsAs, absFlat, writeFlat, counts, Sized}
-use Rattle.tx_list.specs.Moves.{pushIf, emptied, owesIn, sumsIn, fullIn, Moved, stays, goTo, withList, withOwed, withFirmware, startF1, startF2, ends′, givesUp, waitsFrom, puts, asks, knows, oldest, marks, asksNext, commits, closes, goesOn, answered, committed, activated, inF1, inWhole, inF2, heard, late, ticked, starts′}
+use Rattle.tx_list.specs.Moves.{pushIf, emptied, owesIn, sumsIn, fullIn, Moved, stays, goTo, withList, withOwed, withFirmware, startF1, startF2, finishes, givesUp, waitsFrom, puts, asks, knows, oldest, marks, asksNext, commits, closes, goesOn, answered, committed, activated, inF1, inWhole, inF2, heard, late, ticked, startsOver}
 use Rattle.tx_list.specs.declared.State.{State}
 use Rattle.tx_list.specs.declared.State.the-variants.{AwaitStartup, ReadAt, ReadingF2, Reading as ReadingF1, Enabling, Committing, Activating, Done}
 use Rattle.tx_list.proofs.MovesBuffers.{live-length, fill-live, fill-append, fill-pushIf, fill-noted, first-of, second-of, single-of}
@@ -518,7 +518,7 @@ module _ (k : Kind) (h : Flat (k .Parts) (k .Entry)) (z : Sized k h) (g : AllLe 
   by-due true v x t e = e
   by-due false v x t e = still
 
-  by-expire : (y : Bool) → Does k h (expire k y σ) (pick y (ends′ k h) (stays h))
+  by-expire : (y : Bool) → Does k h (expire k y σ) (pick y (finishes k h) (stays h))
   unfolding expire
   by-expire true = gives [] [] (flat-phase _ _)
   by-expire false = still
@@ -556,7 +556,7 @@ module _ (k : Kind) (h : Flat (k .Parts) (k .Entry)) (z : Sized k h) (g : AllLe 
   pub abandon-is : Does k h (did (becomes k σ (σ .rec) unknown done (σ .deadline)) [] []) (givesUp k h)
   abandon-is = gave-up
 
-  pub restart-is : Does k h (did (begins k (σ .wanted) (σ .rec)) [] []) (record { flat = starts′ k h; sent = []; handed = [] })
+  pub restart-is : Does k h (did (begins k (σ .wanted) (σ .rec)) [] []) (record { flat = startsOver k h; sent = []; handed = [] })
   unfolding begins unknown
   restart-is =
       gives [] []

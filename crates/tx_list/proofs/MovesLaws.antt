@@ -11,7 +11,7 @@ use Rattle.tx_list.specs.Reading.{Command, Kind, message, tick, firmware
 use Rattle.tx_list.specs.Session.{Record, Result, did, refuses, allLe, wellFormed, gate, soundly, step, begin, beginBy, oldBounds, restart, abandon, begins, full14, onMessage, onTick, onFirmware}
 use Rattle.tx_list.specs.Stored.{Store, answer, called, opens, abandoned, new, again}
 use Rattle.tx_list.specs.Memory.{Flat, writeFlat, Sized, storeBy}
-use Rattle.tx_list.specs.Moves.{Moved, told, soundIn, fullIn, oldIn, heard, ticked, givesUp, starts′, withFirmware, judgeMessage, judgeTick, judgeState, judgeRestart}
+use Rattle.tx_list.specs.Moves.{Moved, told, soundIn, fullIn, oldIn, heard, ticked, givesUp, startsOver, withFirmware, judgeMessage, judgeTick, judgeState, judgeRestart}
 use Rattle.tx_list.proofs.MovesSound.{sound-is, sound-counts, sound-owes, sound-sums, full-is, wanted-fits, old-same}
 use Rattle.tx_list.proofs.MovesHeard.{Does, heard-is, ticked-is, firmware-is, abandon-is, restart-is}
 
@@ -166,7 +166,7 @@ module _ (k : Kind) (C : Type 0) (of : C → Flat (k .Parts) (k .Entry)) (to : F
       (c : C)
       → Sized k (of c)
       → opens k m (again c)
-      ≡ told k m to c (judgeRestart k (of c)) (record { flat = starts′ k (of c); sent = []; handed = [] })
+      ≡ told k m to c (judgeRestart k (of c)) (record { flat = startsOver k (of c); sent = []; handed = [] })
   unfolding opens restart begin
   restart-law c z =
       ap (λ x. answer k m c (soundly k (m .counted c) (soundly k (wellFormed k (m .abs c)) x)))
@@ -176,7 +176,7 @@ module _ (k : Kind) (C : Type 0) (of : C → Flat (k .Parts) (k .Entry)) (to : F
       (unless (ltb (k .wantMax) (length (m .abs c .wanted))) 11 (unless (not (allLe (oldBounds k (m .abs c .rec)))) 12 taken))
       (unless (not (allLe (oldIn (of c)))) 12 taken)
       (did (begins k (m .abs c .wanted) (m .abs c .rec)) [] [])
-      (record { flat = starts′ k (of c); sent = []; handed = [] })
+      (record { flat = startsOver k (of c); sent = []; handed = [] })
       z
       (λ e. old-verdict c z e)
       (λ e v. restart-is k (of c) z (sound-counts k (of c) e))

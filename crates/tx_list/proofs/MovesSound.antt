@@ -15,7 +15,8 @@ use Rattle.tx_list.specs.Memory.{live, Flat, phaseIn, absFlat, counts, S
 use Rattle.tx_list.specs.Moves.{formatIn, owesIn, sumsIn, soundIn, fullIn, oldIn}
 use Rattle.tx_list.specs.declared.State.{State}
 use Rattle.tx_list.specs.declared.State.the-variants.{AwaitStartup, ReadAt, ReadingF2, Reading as ReadingF1, Enabling, Committing, Activating, Done}
-use Rattle.tx_list.proofs.MemoryLists.{left-true, right-true, and-true, allLe-true, allLe-yes}
+use Rattle.field.specs.Tests.{left-true, right-true, and-true}
+use Rattle.tx_list.proofs.Lists.{allLe-true, allLe-yes}
 use Rattle.tx_list.proofs.MovesBuffers.{live-length}
 use borrow.Author.Tests.{lt-ltb, le-ltb}
 

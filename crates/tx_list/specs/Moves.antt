@@ -274,8 +274,8 @@ module _ (k : Kind) where
       }
 
   -- the session ends; with no list known
-  abbrev pub ends′ : F → M
-  ends′ h = record { flat = goTo h Done (h .deadline); sent = []; handed = [] }
+  abbrev pub finishes : F → M
+  finishes h = record { flat = goTo h Done (h .deadline); sent = []; handed = [] }
 
   abbrev pub givesUp : F → M
   givesUp h = record { flat = goTo (forgets h) Done (h .deadline); sent = []; handed = [] }
@@ -400,17 +400,17 @@ module _ (k : Kind) where
   late ReadAt h t = pick (k .two && (h .told && leb 2500 (h .version))) (startF2 h 1 t) (startF1 h 1 t)
   late (ReadingF2 a) h t = pick (ltb a 3) (startF2 h (a + 1) t) (startF1 h 1 t)
   late (ReadingF1 a) h t = pick (ltb a 3) (startF1 h (a + 1) t) (givesUp h)
-  late Enabling h t = ends′ h
-  late Committing h t = ends′ h
-  late Activating h t = ends′ h
+  late Enabling h t = finishes h
+  late Committing h t = finishes h
+  late Activating h t = finishes h
   late Done h t = stays h
 
   unfoldable pub ticked : F → ℕ → M
   ticked h t = pick (leb (h .deadline) t) (late (h .state) h t) (stays h)
 
   -- "`restart` keeps wanted and record only"
-  abbrev pub starts′ : F → F
-  starts′ h = withFirmware (goTo (forgets h) AwaitStartup 0) false (h .version)
+  abbrev pub startsOver : F → F
+  startsOver h = withFirmware (goTo (forgets h) AwaitStartup 0) false (h .version)
 
   -- the verdicts
   abbrev pub judgeMessage : F → ℕ → List ℕ → ℕ → Verdict

@@ -4,7 +4,7 @@ use Rattle.bounds.proofs.sums_fit.Tie as tie
 use Rattle.bounds.proofs.sums_fit.Reads as reads
 use Rattle.bounds.proofs.sums_fit.Lts as lts
 use Rattle.bounds.proofs.enabling_fits.Reads as enabling-fits-reads
-use Rattle.bounds.proofs.fits2.Reads as fits2-reads
+use Rattle.field.proofs.sum_fits.Reads as sum-fits-reads
 use Rattle.bounds.proofs.lists_fit.Reads as lists-fit-reads
 
 -- src/lib.rt:86:32
@@ -52,16 +52,16 @@ enum-told-6 : tie.Need-enum-told-6
 enum-told-6 c = search needs
 
 -- src/lib.rt:91:30
-fits2-requires : tie.Need-fits2-requires
-fits2-requires c κs = search needs
+sum-fits-requires : tie.Need-sum-fits-requires
+sum-fits-requires c κs = search needs
 
 -- src/lib.rt:92:30
 enum-told-7 : tie.Need-enum-told-7
 enum-told-7 c = search needs
 
 -- src/lib.rt:92:30
-fits2-requires-2 : tie.Need-fits2-requires-2
-fits2-requires-2 c κs = search needs
+sum-fits-requires-2 : tie.Need-sum-fits-requires-2
+sum-fits-requires-2 c κs = search needs
 
 -- src/lib.rt:93:24
 enum-told-8 : tie.Need-enum-told-8
@@ -89,11 +89,11 @@ returns-5 c = rw (c .before .enum-told5 .given .1) (c .enabling-fits .ensures)
 
 -- src/lib.rt:82:1
 returns-6 : tie.Need-returns-6
-returns-6 c = rw (c .before .enum-told6 .given .1) (c .fits2 .ensures)
+returns-6 c = rw (c .before .enum-told6 .given .1) (c .sum-fits .ensures)
 
 -- src/lib.rt:82:1
 returns-7 : tie.Need-returns-7
-returns-7 c = rw (c .before .enum-told7 .given .1) (c .fits22 .ensures)
+returns-7 c = rw (c .before .enum-told7 .given .1) (c .sum-fits2 .ensures)
 
 -- src/lib.rt:82:1
 returns-8 : tie.Need-returns-8
@@ -114,9 +114,9 @@ sums-fit-spec =
     enum-told-5
     enabling-fits-requires
     enum-told-6
-    fits2-requires
+    sum-fits-requires
     enum-told-7
-    fits2-requires-2
+    sum-fits-requires-2
     enum-told-8
     returns
     returns-2

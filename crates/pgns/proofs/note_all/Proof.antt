@@ -9,8 +9,8 @@ use Rattle.pgns.specs.Turns.{noted-room, noted-full}
 use Rattle.pgns.proofs.note_all.Statement.{statement}
 use Rattle.pgns.proofs.note_all.Tie as tie
 
-fits2-requires : tie.Need-fits2-requires
-fits2-requires c κs = search needs
+sum-fits-requires : tie.Need-sum-fits-requires
+sum-fits-requires c κs = search needs
 
 first-requires : tie.Need-first-requires
 first-requires c κs = search needs
@@ -18,7 +18,7 @@ first-requires c κs = search needs
 note-each-requires : tie.Need-note-each-requires
 note-each-requires c κs =
     let a = c .before .before .before .before .before .before .args in
-    let t = c .before .before .before .fits2 in
+    let t = c .before .before .before .sum-fits in
     let h : a .n + a .m ≤ length (a .known .now) = le-said (a .n + a .m) (length (a .known .now)) (t .ensures) (c .before .before .if1 .taken) in
     let e = ap length (c .first .ensures) ∙ length-take (a .m) (a .src .now) in
     omega (arith, e, h)
@@ -31,16 +31,16 @@ returns c =
     let b = c .before .before .before .before .before in
     let a = b .before .before .before .before .args in
     let n = c .before .before .note-each in
-    let h : a .n + a .m ≤ length (a .known .now) = le-said (a .n + a .m) (length (a .known .now)) (b .before .fits2 .ensures) (b .if1 .taken) in
+    let h : a .n + a .m ≤ length (a .known .now) = le-said (a .n + a .m) (length (a .known .now)) (b .before .sum-fits .ensures) (b .if1 .taken) in
     noted-room (a .known .now) (a .src .now) (a .n) (a .m) h (c .before .before .before .first .ensures) (n .ensures .0) (n .ensures .1)
 
 returns-2 : tie.Need-returns-2
 returns-2 c =
     let a = c .before .before .before .before .args in
     noted-full (a .known .now) (a .src .now) (a .n) (a .m)
-    (lt-said (a .n + a .m) (length (a .known .now)) (c .before .fits2 .ensures) (c .if1 .left))
+    (lt-said (a .n + a .m) (length (a .known .now)) (c .before .sum-fits .ensures) (c .if1 .left))
 
 pub note-all-spec : {M : Type 1} → statement M
 note-all-spec =
     tie.close
-    (tie.spec fits2-requires first-requires note-each-requires same-length returns returns-2)
+    (tie.spec sum-fits-requires first-requires note-each-requires same-length returns returns-2)

@@ -1,0 +1,32 @@
+-- Demand 3: the record and the commands of a session, for every list of messages, ticks and firmware settings, refused ones included,
+-- from a session just begun or restarted; and what follows of a gateway that helps.
+-- The statements are `Demand3` of session/specs/Played, over the claim of tx_list/specs/Demand and the observer of tx_list/specs/Observer, and `StartUp` of session/specs/StartUp. The functions' contracts
+-- equate each answer with the definitions that these statements are about. Assumes nothing.
+use Rattle.session.specs.Played.{Played, Demand3}
+use Rattle.session.specs.StartUp.{StartUp, StartedUp}
+use Rattle.session.proofs.Demand3 as proved
+use Rattle.session.proofs.StartUp as lives
+use Rattle.session.proofs.Tilt.{wanted, nothing, newer, older, newer-tilts, older-tilts}
+use Rattle.session.specs.declared.TxListSync.{TxListSync}
+use Rattle.session.specs.Sync.{kind, begunWith}
+use Rattle.tx_list.specs.Live.{startUp}
+use mathlib.Core.List.{List}
+use Prim.Native.Nat.{ℕ}
+
+-- "after these calls, whatever clock and gateway do": one claim about the whole list of calls
+pub demand-3 : Demand3
+demand-3 = proved.demand3
+
+-- beyond the demands: the start-up ends done, with every wanted PGN that was not refused before on the known list, so that `lacks`
+-- says nothing of it, and everything newly enabled saved
+pub start-up : StartUp
+start-up = lives.start-up
+
+-- the seat's reminder, PGN 126983, with a gateway of firmware 2.690 (Format 2) and with one whose firmware is not known (Format 1)
+pub tilt-2690 : (last : TxListSync) (bytes : List ℕ) → Played (begunWith wanted nothing .sync) (startUp kind wanted nothing newer) last bytes
+    → StartedUp wanted nothing newer last bytes
+tilt-2690 = newer-tilts
+
+pub tilt-older : (last : TxListSync) (bytes : List ℕ) → Played (begunWith wanted nothing .sync) (startUp kind wanted nothing older) last bytes
+    → StartedUp wanted nothing older last bytes
+tilt-older = older-tilts
