@@ -211,7 +211,7 @@ pub fn compare(bin: &Path, full: bool, seed: u64, runs: usize) -> Result<(), Str
         missing.push("listing");
     }
     if !missing.is_empty() {
-        println!("not there yet, so not compared: {}", missing.join(", "));
+        println!("not there, so not compared: {}", missing.join(", "));
     }
     Ok(())
 }
