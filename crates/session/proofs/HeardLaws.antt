@@ -18,7 +18,9 @@ use Rattle.tx_list.proofs.MovesSound.{sound-counts, sound-owes, sound-sums}
 use Rattle.session.specs.declared.TxListSync.{TxListSync}
 use Rattle.session.specs.declared.write.Step.{Step}
 use Rattle.session.specs.declared.write.Sent.the-variants.{Nothing}
-use Rattle.session.specs.Sync.{kind, ofSync, overList, Stepped, toldStep, stepOf}
+use Rattle.session.specs.declared.Numbers.{Numbers}
+use Rattle.session.specs.Sync.{kind, ofSync, overList, Stepped, stepOf}
+use Rattle.session.specs.Lent.{Arrays, flatOf, toldStep}
 
 module _ (s : TxListSync) (e : soundIn kind (ofSync s) ≡ true) where
   pub within : AllLe (counts kind (ofSync s))
@@ -66,18 +68,19 @@ pub by-state :
     → r ≡ stepOf (heard kind (s .state) (ofSync s) t m)
 by-state s t m e h = h ∙ ap (λ (q : State). stepOf (heard kind q (ofSync s) t m)) (sym e)
 
-pub stays-waiting : (s : TxListSync) (t : ℕ) (m : List ℕ) {r : Step} → r ≡ record { sent = Nothing; sync = s } → toldStep r ≡ stepOf (heard kind ReadAt (ofSync s) t m)
-unfolding heard
-stays-waiting s t m e = ap toldStep e
+module _ (x : Numbers) (a : Arrays) (t : ℕ) (m : List ℕ) {r : Step} (e : r ≡ record { sent = Nothing; numbers = x }) where
+  pub stays-waiting : toldStep r a ≡ stepOf (heard kind ReadAt (flatOf x a) t m)
+  unfolding heard
+  stays-waiting = ap (λ (q : Step). toldStep q a) e
 
-pub stays-done : (s : TxListSync) (t : ℕ) (m : List ℕ) {r : Step} → r ≡ record { sent = Nothing; sync = s } → toldStep r ≡ stepOf (heard kind Done (ofSync s) t m)
-unfolding heard
-stays-done s t m e = ap toldStep e
+  pub stays-done : toldStep r a ≡ stepOf (heard kind Done (flatOf x a) t m)
+  unfolding heard
+  stays-done = ap (λ (q : Step). toldStep q a) e
 
-pub hears-f1 : (s : TxListSync) (t : ℕ) (m : List ℕ) (a : ℕ) {r : Stepped} → r ≡ stepOf (inF1 kind (f1Of m) (ofSync s) t) → r ≡ stepOf (heard kind (ReadingF1 a) (ofSync s) t m)
+pub hears-f1 : (s : TxListSync) (t : ℕ) (m : List ℕ) (n : ℕ) {r : Stepped} → r ≡ stepOf (inF1 kind (f1Of m) (ofSync s) t) → r ≡ stepOf (heard kind (ReadingF1 n) (ofSync s) t m)
 unfolding heard
-hears-f1 s t m a e = e
+hears-f1 s t m n e = e
 
-pub hears-f2 : (s : TxListSync) (t : ℕ) (m : List ℕ) (a : ℕ) {r : Stepped} → r ≡ stepOf (inF2 kind (f2Of m) (ofSync s) t m) → r ≡ stepOf (heard kind (ReadingF2 a) (ofSync s) t m)
+pub hears-f2 : (s : TxListSync) (t : ℕ) (m : List ℕ) (n : ℕ) {r : Stepped} → r ≡ stepOf (inF2 kind (f2Of m) (ofSync s) t m) → r ≡ stepOf (heard kind (ReadingF2 n) (ofSync s) t m)
 unfolding heard
-hears-f2 s t m a e = e
+hears-f2 s t m n e = e

@@ -1,17 +1,29 @@
 -- Laws of what is heard while enabling, committing and activating, and of a count beside what is written. Assumes nothing.
 use Prim.Native.Nat.{ℕ, _+_, _-_, _≤_}
 use native.Mathlib.Omega.{arith}
-use mathlib.Core.Path.{_≡_}
-use mathlib.Core.Bool.{true, false}
+use mathlib.Core.Path.{_≡_, refl}
+use mathlib.Core.Bool.{Bool, true, false, not, _&&_}
 use mathlib.Core.List.{List}
 use lib.ListN.{length, take, drop, length-drop}
 use lib.Seq.{length-take-le}
 use Rattle.lists.specs.declared.F2List.{F2List}
-use Rattle.tx_list.specs.Views.{starts, isAnswer, answerOf, ackOf, ackBy, good, nothing}
+use Rattle.tx_list.specs.Views.{has, Answer, enabled, there, denied, isFresh, starts, isAnswer, answerOf, ackOf, ackBy, good, nothing}
 use Rattle.tx_list.specs.Memory.{Flat}
 use Rattle.tx_list.specs.Moves.{heard, answered, goesOn, marks, stays, committed, activated}
 use Rattle.tx_list.specs.declared.State.the-variants.{Enabling, Committing, Activating}
 use Rattle.session.specs.Sync.{kind}
+
+-- error 0
+unfoldable pub isNow : Answer → Bool
+isNow enabled = true
+isNow there = false
+isNow denied = false
+
+pub fresh-now : (a : Answer) (p : ℕ) (l : List ℕ) → (isNow a && not (has p l)) ≡ isFresh a p l
+unfolding isNow isFresh
+fresh-now enabled p l = refl
+fresh-now there p l = refl
+fresh-now denied p l = refl
 
 -- the answer to commit or activate, by its first byte
 ack-good : (b : ℕ) (m : List ℕ) → starts b m ≡ true → ackOf false b m ≡ good

@@ -1,6 +1,8 @@
--- The session's struct as the model's session, and demand 3 of it.
+-- The session's struct as the model's session, in lent memory too, and demand 3 of it.
 pub mod Sync
 pub mod Sound
+pub mod Lent
+pub mod LentLaws
 pub mod SyncLaws
 pub mod Played
 pub mod StartUp

@@ -36,7 +36,6 @@ use Rattle.session.specs.declared.Lacks.{Lacks}
 use Rattle.session.specs.declared.Lacks.the-variants.{Nothing as SaysNothing, Whole, Partial, Refused}
 use Rattle.session.specs.declared.write.Sent.{Sent}
 use Rattle.session.specs.declared.write.Sent.the-variants.{Nothing, ReadF1, ReadF2, Enable, Commit, Activate}
-use Rattle.session.specs.declared.write.Step.{Step}
 
 -- arrays with counts
 
@@ -241,9 +240,6 @@ bytesOf x = stored.wire kind store (commandsOf x)
 pub record Stepped : Type 0 where
   pub sent : List Command
   pub sync : TxListSync
-
-abbrev pub toldStep : Step → Stepped
-toldStep r = record { sent = commandsOf (r .sent); sync = r .sync }
 
 abbrev pub stepOf : Moved F2List ℕ → Stepped
 stepOf x = record { sent = x .sent; sync = toSync (x .flat) }

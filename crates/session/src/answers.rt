@@ -1,10 +1,7 @@
 // The answers to enable, commit and activate.
 use super::ANSWER_TIMEOUT_MS;
-use super::Known;
-use super::List64;
-use super::List256;
-use super::TxListRecord;
-use super::TxListSync;
+use super::Numbers;
+use super::Totals;
 use super::write::Sent;
 use super::write::Step;
 use super::write::stay;
@@ -15,264 +12,255 @@ use tx_list::State;
 use views::EnableResult;
 ghost use mathlib.Core.Path.{_≡_};
 ghost use mathlib.Core.Bool.{_&&_, not};
-ghost use Prim.Native.Nat.{_≤_, _<_, _+_};
-ghost use Rattle.tx_list.specs.Views.{has, isGood, isThere, isDenied, isFresh, answerOf, good};
-ghost use Rattle.tx_list.specs.Memory.{live};
-ghost use Rattle.tx_list.specs.Moves.{push, pushIf, marks, goesOn, asksNext, closes, commits, committed, activated, heard};
+ghost use mathlib.Core.List.{List};
+ghost use Prim.Native.Nat.{ℕ, _≤_, _<_, _+_};
+ghost use lib.ListN.{length, take, getD};
+ghost use Rattle.lists.specs.declared.F2List.{F2List};
+ghost use Rattle.pgns.specs.Lists.{told};
+ghost use Rattle.tx_list.specs.Views.{has, isGood, isThere, isDenied, answerOf, good};
+ghost use Rattle.tx_list.specs.Moves.{pushIf, marks, goesOn, asksNext, closes, commits, committed, activated, heard};
 ghost use Rattle.views.specs.Told.{toldResult};
-ghost use Rattle.session.specs.Sync.{kind, of64, to64, of256, to256, of1344, to1344, ofSync, toSync, toldStep, stepOf};
+ghost use Rattle.session.specs.Sync.{kind, toSync, stepOf};
+ghost use Rattle.session.specs.Lent.{Arrays, lent, syncOf, flatOf, toldStep};
+ghost use Rattle.session.specs.AnswersLaws.{isNow};
 
-fn push64(l: List64, pgn: u32) -> List64
-    requires { ⌜ l .n < 64 ⌝ }
-    ensures { λ r. ⌜ r ≡ to64 (push (of64 l) pgn) ⌝ }
+// The PGN stored after the first n, where a test passed; answers the new count.
+fn push_if(list: &mut [u32], n: usize, yes: bool, pgn: u32) -> usize
+    requires { ⌜ n < length (now list) ⌝ }
+    ensures { λ r. ⌜ told r (now (list .exit)) ≡ pushIf yes (told n (now (list .entry))) pgn ⌝ }
 {
-    let at = l.n;
-    let mut r = l;
-    r.pgns[at] = pgn;
-    r.n = at + 1;
-    r
+    if yes {
+        list[n] = pgn;
+        return n + 1;
+    }
+    n
 }
 
-fn push256(l: List256, pgn: u32) -> List256
-    requires { ⌜ l .n < 256 ⌝ }
-    ensures { λ r. ⌜ r ≡ to256 (push (of256 l) pgn) ⌝ }
+// Whether a test passed and the first n of the list lack the PGN.
+fn absent(list: &[u32], n: usize, yes: bool, pgn: u32) -> bool
+    ensures { λ r. ⌜ r ≡ (yes && not (has pgn (take n (now (list .entry))))) ⌝ }
 {
-    let at = l.n;
-    let mut r = l;
-    r.pgns[at] = pgn;
-    r.n = at + 1;
-    r
+    if !yes {
+        return false;
+    }
+    !pgns::has(list, n, pgn)
 }
 
-// A good answer adds the PGN to known, if a list is known and lacks it.
-fn mark_known(k: Known, pgn: u32, a: EnableResult) -> Known
-    requires { ⌜ k .list .n < 1344 ⌝ }
-    ensures { λ r. ⌜ r ≡ record { read = k .read; complete = k .complete; list = to1344 (pushIf (k .read && (isGood (toldResult a) && not (has pgn (live (of1344 (k .list)))))) (of1344 (k .list)) pgn) } ⌝ }
+fn is_good(a: EnableResult) -> bool
+    ensures { λ r. ⌜ r ≡ isGood (toldResult a) ⌝ }
 {
-    let good = match a {
+    match a {
         EnableResult::Now => true,
         EnableResult::Already => true,
         EnableResult::Refused => false,
-    };
-    let n = k.list.n;
-    let there = pgns::has(&k.list.pgns, n, pgn);
-    if k.read & (good & !there) {
-        let mut l = k.list;
-        l.pgns[n] = pgn;
-        l.n = n + 1;
-        Known {
-            read: k.read,
-            complete: k.complete,
-            list: l,
-        }
-    } else {
-        k
     }
 }
 
-// Already there: present; refused: refused.
-fn mark_record(rec: TxListRecord, pgn: u32, a: EnableResult) -> TxListRecord
-    requires { ⌜ (rec .present .n < 256) × (rec .refused .n < 256) ⌝ }
-    ensures { λ r. ⌜ r ≡ record { saved = rec .saved; present = to256 (pushIf (isThere (toldResult a)) (of256 (rec .present)) pgn); refused = to256 (pushIf (isDenied (toldResult a)) (of256 (rec .refused)) pgn) } ⌝ }
+fn is_there(a: EnableResult) -> bool
+    ensures { λ r. ⌜ r ≡ isThere (toldResult a) ⌝ }
 {
     match a {
-        EnableResult::Now => rec,
-        EnableResult::Already => {
-            let mut r = rec;
-            let l = push256(r.present, pgn);
-            r.present = l;
-            r
-        }
-        EnableResult::Refused => {
-            let mut r = rec;
-            let l = push256(r.refused, pgn);
-            r.refused = l;
-            r
-        }
+        EnableResult::Now => false,
+        EnableResult::Already => true,
+        EnableResult::Refused => false,
     }
 }
 
-// Enabled now, and not in the old saved list: fresh.
-fn mark_fresh(fresh: List64, saved: List256, pgn: u32, a: EnableResult) -> List64
-    requires { ⌜ fresh .n < 64 ⌝ }
-    ensures { λ r. ⌜ r ≡ to64 (pushIf (isFresh (toldResult a) pgn (live (of256 saved))) (of64 fresh) pgn) ⌝ }
+fn is_denied(a: EnableResult) -> bool
+    ensures { λ r. ⌜ r ≡ isDenied (toldResult a) ⌝ }
 {
     match a {
-        EnableResult::Now => {
-            let n = saved.n;
-            if pgns::has(&saved.pgns, n, pgn) {
-                fresh
-            } else {
-                push64(fresh, pgn)
-            }
-        }
-        EnableResult::Already => fresh,
-        EnableResult::Refused => fresh,
+        EnableResult::Now => false,
+        EnableResult::Already => false,
+        EnableResult::Refused => true,
     }
 }
 
-// The record, the known list and the fresh ones after an answer to the oldest PGN owed.
-fn mark(s: TxListSync, payload: &[u8]) -> TxListSync
-    requires { ⌜ (s .held .known .list .n < 1344) × (s .held .learned .present .n < 256) × (s .held .learned .refused .n < 256) × (s .held .fresh .n < 64) ⌝ }
-    ensures { λ r. ⌜ r ≡ toSync (marks kind (ofSync s) (now (payload .entry)) (answerOf (now (payload .entry)))) ⌝ }
+fn is_now(a: EnableResult) -> bool
+    ensures { λ r. ⌜ r ≡ isNow (toldResult a) ⌝ }
+{
+    match a {
+        EnableResult::Now => true,
+        EnableResult::Already => false,
+        EnableResult::Refused => false,
+    }
+}
+
+// The known list, the record and the fresh ones after an answer to the oldest PGN owed: a good one adds it to known, if a list is
+// known and lacks it; already there: present; refused: refused; enabled now and not saved before: fresh.
+fn mark(
+    x: Numbers,
+    pgn: u32,
+    fresh: &mut [u32; 64],
+    known: &mut [u32; 1344],
+    saved: &[u32; 256],
+    present: &mut [u32; 256],
+    refused: &mut [u32; 256],
+    payload: &[u8],
+) -> Numbers
+    requires { ⌜ (x .totals .counts .known < 1344) × (x .totals .counts .present < 256) × (x .totals .counts .refused < 256) × (x .totals .counts .fresh < 64) ⌝ }
+    ensures { λ r. ⌜ ((w o l : List ℕ) (f : F2List) → pgn ≡ getD o 0 0 → syncOf r (lent w o (now (fresh .exit)) l (now (known .exit)) (now (saved .entry)) (now (present .exit)) (now (refused .exit)) f) ≡ toSync (marks kind (flatOf x (lent w o (now (fresh .entry)) l (now (known .entry)) (now (saved .entry)) (now (present .entry)) (now (refused .entry)) f)) (now (payload .entry)) (answerOf (now (payload .entry))))) ⌝ }
 {
     let a = views::enable_result(payload);
-    let mut h = s.held;
-    let owed = h.owed;
-    let pgn = owed.pgns[0];
-    let known = mark_known(h.known, pgn, a);
-    let learned = mark_record(h.learned, pgn, a);
-    let fresh = mark_fresh(h.fresh, h.learned.saved, pgn, a);
-    h.known = known;
-    h.learned = learned;
-    h.fresh = fresh;
-    let st = s.state;
-    TxListSync { state: st, held: h }
+    let mut t = x.totals;
+    let c = t.counts;
+    let lacked = absent(known, c.known, t.read & is_good(a), pgn);
+    let unsaved = absent(saved, c.saved, is_now(a), pgn);
+    let k = push_if(known, c.known, lacked, pgn);
+    let p = push_if(present, c.present, is_there(a), pgn);
+    let q = push_if(refused, c.refused, is_denied(a), pgn);
+    let u = push_if(fresh, c.fresh, unsaved, pgn);
+    t.counts.known = k;
+    t.counts.present = p;
+    t.counts.refused = q;
+    t.counts.fresh = u;
+    let st = x.state;
+    Numbers {
+        state: st,
+        totals: t,
+    }
+}
+
+// Another phase, with an answer awaited from now on.
+pub(crate) fn await_answer(t: Totals, state: State, time: u64) -> Numbers
+    requires { ⌜ time ≤ 18446744073709541615 ⌝ }
+    ensures { λ r. ⌜ r ≡ record { state = state; totals = record { counts = t .counts; deadline = time + 10000; read = t .read; complete = t .complete; told = t .told; version = t .version; blank = t .blank } } ⌝ }
+{
+    let mut u = t;
+    u.deadline = time + ANSWER_TIMEOUT_MS;
+    Numbers {
+        state,
+        totals: u,
+    }
 }
 
 // The next PGN owed is asked for.
-fn ask_next(s: TxListSync, time: u64) -> Step
-    requires { ⌜ (time ≤ 18446744073709541615) × (1 < s .held .owed .n) × (s .held .owed .n ≤ 64) ⌝ }
-    ensures { λ r. ⌜ toldStep r ≡ stepOf (asksNext kind (ofSync s) time) ⌝ }
+fn ask_next(x: Numbers, owed: &mut [u32; 64], time: u64) -> Step
+    requires { ⌜ (time ≤ 18446744073709541615) × (1 < x .totals .counts .owed) × (x .totals .counts .owed ≤ 64) ⌝ }
+    ensures { λ r. ⌜ ((w u l k s p q : List ℕ) (f : F2List) → toldStep r (lent w (now (owed .exit)) u l k s p q f) ≡ stepOf (asksNext kind (flatOf x (lent w (now (owed .entry)) u l k s p q f)) time)) ⌝ }
 {
-    let mut h = s.held;
-    let n = h.owed.n;
-    let mut a = h.owed.pgns;
-    let next = a[1];
-    pgns::shift(&mut a, n);
-    let owed = List64 { pgns: a, n: n - 1 };
-    h.owed = owed;
-    h.deadline = time + ANSWER_TIMEOUT_MS;
-    let sync = TxListSync {
-        state: State::Enabling,
-        held: h,
-    };
+    let mut t = x.totals;
+    let n = t.counts.owed;
+    let next = owed[1];
+    pgns::shift(owed, n);
+    let left = n - 1;
+    t.counts.owed = left;
+    let numbers = await_answer(t, State::Enabling, time);
     Step {
         sent: Sent::Enable(next),
-        sync,
+        numbers,
     }
 }
 
 // All are answered: commit where some are fresh, else done.
-fn close(s: TxListSync, time: u64) -> Step
+fn close(x: Numbers, time: u64) -> Step
     requires { ⌜ time ≤ 18446744073709541615 ⌝ }
-    ensures { λ r. ⌜ toldStep r ≡ stepOf (closes kind (ofSync s) time) ⌝ }
+    ensures { λ r. ⌜ ((a : Arrays) → toldStep r a ≡ stepOf (closes kind (flatOf x a) time)) ⌝ }
 {
-    let mut h = s.held;
-    h.deadline = time + ANSWER_TIMEOUT_MS;
-    let sync = TxListSync {
-        state: State::Done,
-        held: h,
-    };
+    let numbers = await_answer(x.totals, State::Done, time);
     Step {
         sent: Sent::Nothing,
-        sync,
+        numbers,
     }
 }
 
-fn commit(s: TxListSync, time: u64) -> Step
+fn commit(x: Numbers, time: u64) -> Step
     requires { ⌜ time ≤ 18446744073709541615 ⌝ }
-    ensures { λ r. ⌜ toldStep r ≡ stepOf (commits kind (ofSync s) time) ⌝ }
+    ensures { λ r. ⌜ ((a : Arrays) → toldStep r a ≡ stepOf (commits kind (flatOf x a) time)) ⌝ }
 {
-    let mut h = s.held;
-    h.deadline = time + ANSWER_TIMEOUT_MS;
-    let sync = TxListSync {
-        state: State::Committing,
-        held: h,
-    };
+    let numbers = await_answer(x.totals, State::Committing, time);
     Step {
         sent: Sent::Commit,
-        sync,
+        numbers,
     }
 }
 
-fn go_on(s: TxListSync, time: u64) -> Step
-    requires { ⌜ (time ≤ 18446744073709541615) × (s .held .owed .n ≤ 64) ⌝ }
-    ensures { λ r. ⌜ toldStep r ≡ stepOf (goesOn kind (ofSync s) time) ⌝ }
+fn go_on(x: Numbers, owed: &mut [u32; 64], time: u64) -> Step
+    requires { ⌜ (time ≤ 18446744073709541615) × (x .totals .counts .owed ≤ 64) ⌝ }
+    ensures { λ r. ⌜ ((w u l k s p q : List ℕ) (f : F2List) → toldStep r (lent w (now (owed .exit)) u l k s p q f) ≡ stepOf (goesOn kind (flatOf x (lent w (now (owed .entry)) u l k s p q f)) time)) ⌝ }
 {
-    if 1 < s.held.owed.n {
-        ask_next(s, time)
-    } else if s.held.fresh.n == 0 {
-        close(s, time)
+    if 1 < x.totals.counts.owed {
+        ask_next(x, owed, time)
+    } else if x.totals.counts.fresh == 0 {
+        close(x, time)
     } else {
-        commit(s, time)
+        commit(x, time)
     }
 }
 
-pub(crate) fn on_enable(s: TxListSync, time: u64, payload: &[u8]) -> Step
+pub(crate) fn on_enable(
+    x: Numbers,
+    owed: &mut [u32; 64],
+    fresh: &mut [u32; 64],
+    known: &mut [u32; 1344],
+    saved: &[u32; 256],
+    present: &mut [u32; 256],
+    refused: &mut [u32; 256],
+    time: u64,
+    payload: &[u8],
+) -> Step
     requires { ⌜ time ≤ 18446744073709541615 ⌝ }
-    requires { ⌜ (s .held .owed .n ≤ 64) × (s .held .known .list .n < 1344) × (s .held .learned .present .n < 256) × (s .held .learned .refused .n < 256) × (s .held .fresh .n < 64) ⌝ }
-    ensures { λ r. ⌜ toldStep r ≡ stepOf (heard kind State.Enabling (ofSync s) time (now (payload .entry))) ⌝ }
+    requires { ⌜ (x .totals .counts .owed ≤ 64) × (x .totals .counts .known < 1344) × (x .totals .counts .present < 256) × (x .totals .counts .refused < 256) × (x .totals .counts .fresh < 64) ⌝ }
+    ensures { λ r. ⌜ ((w l : List ℕ) (f : F2List) → toldStep r (lent w (now (owed .exit)) (now (fresh .exit)) l (now (known .exit)) (now (saved .entry)) (now (present .exit)) (now (refused .exit)) f) ≡ stepOf (heard kind State.Enabling (flatOf x (lent w (now (owed .entry)) (now (fresh .entry)) l (now (known .entry)) (now (saved .entry)) (now (present .entry)) (now (refused .entry)) f)) time (now (payload .entry)))) ⌝ }
 {
     let bem = field::byte_at(payload, 0);
     match bem {
         BEM_TX_PGN_ENABLE => {
-            let marked = mark(s, payload);
-            go_on(marked, time)
+            let pgn = owed[0];
+            let marked = mark(x, pgn, fresh, known, saved, present, refused, payload);
+            go_on(marked, owed, time)
         }
-        _ => stay(s),
+        _ => stay(x),
     }
 }
 
-fn activate(s: TxListSync, time: u64) -> Step
+fn activate(x: Numbers, time: u64) -> Step
     requires { ⌜ time ≤ 18446744073709541615 ⌝ }
-    ensures { λ r. ⌜ toldStep r ≡ stepOf (committed kind good (ofSync s) time) ⌝ }
+    ensures { λ r. ⌜ ((a : Arrays) → toldStep r a ≡ stepOf (committed kind good (flatOf x a) time)) ⌝ }
 {
-    let mut h = s.held;
-    h.deadline = time + ANSWER_TIMEOUT_MS;
-    let sync = TxListSync {
-        state: State::Activating,
-        held: h,
-    };
+    let numbers = await_answer(x.totals, State::Activating, time);
     Step {
         sent: Sent::Activate,
-        sync,
+        numbers,
     }
 }
 
-pub(crate) fn on_commit(s: TxListSync, time: u64, payload: &[u8]) -> Step
+pub(crate) fn on_commit(x: Numbers, time: u64, payload: &[u8]) -> Step
     requires { ⌜ time ≤ 18446744073709541615 ⌝ }
-    ensures { λ r. ⌜ toldStep r ≡ stepOf (heard kind State.Committing (ofSync s) time (now (payload .entry))) ⌝ }
+    ensures { λ r. ⌜ ((a : Arrays) → toldStep r a ≡ stepOf (heard kind State.Committing (flatOf x a) time (now (payload .entry)))) ⌝ }
 {
     let bem = field::byte_at(payload, 0);
     match bem {
-        BEM_COMMIT_TO_EEPROM => activate(s, time),
-        _ => stay(s),
+        BEM_COMMIT_TO_EEPROM => activate(x, time),
+        _ => stay(x),
     }
 }
 
 // The fresh ones are saved.
-fn save(s: TxListSync, time: u64) -> Step
-    requires { ⌜ (time ≤ 18446744073709541615) × (s .held .learned .saved .n + s .held .fresh .n ≤ 256) × (s .held .fresh .n ≤ 64) ⌝ }
-    ensures { λ r. ⌜ toldStep r ≡ stepOf (activated kind good (ofSync s) time) ⌝ }
+fn save(x: Numbers, fresh: &[u32; 64], saved: &mut [u32; 256], time: u64) -> Step
+    requires { ⌜ (time ≤ 18446744073709541615) × (x .totals .counts .saved + x .totals .counts .fresh ≤ 256) × (x .totals .counts .fresh ≤ 64) ⌝ }
+    ensures { λ r. ⌜ ((w o l k p q : List ℕ) (f : F2List) → toldStep r (lent w o (now (fresh .entry)) l k (now (saved .exit)) p q f) ≡ stepOf (activated kind good (flatOf x (lent w o (now (fresh .entry)) l k (now (saved .entry)) p q f)) time)) ⌝ }
 {
-    let mut h = s.held;
-    let at = h.learned.saved.n;
-    let n = h.fresh.n;
-    let mut a = h.learned.saved.pgns;
-    pgns::append(&mut a, at, &h.fresh.pgns, n);
-    let saved = List256 { pgns: a, n: at + n };
-    let mut learned = h.learned;
-    learned.saved = saved;
-    h.learned = learned;
-    h.deadline = time + ANSWER_TIMEOUT_MS;
-    let sync = TxListSync {
-        state: State::Done,
-        held: h,
-    };
+    let mut t = x.totals;
+    let at = t.counts.saved;
+    let n = t.counts.fresh;
+    pgns::append(saved, at, fresh, n);
+    let end = at + n;
+    t.counts.saved = end;
+    let numbers = await_answer(t, State::Done, time);
     Step {
         sent: Sent::Nothing,
-        sync,
+        numbers,
     }
 }
 
-pub(crate) fn on_activate(s: TxListSync, time: u64, payload: &[u8]) -> Step
-    requires { ⌜ (time ≤ 18446744073709541615) × (s .held .learned .saved .n + s .held .fresh .n ≤ 256) × (s .held .fresh .n ≤ 64) ⌝ }
-    ensures { λ r. ⌜ toldStep r ≡ stepOf (heard kind State.Activating (ofSync s) time (now (payload .entry))) ⌝ }
+pub(crate) fn on_activate(x: Numbers, fresh: &[u32; 64], saved: &mut [u32; 256], time: u64, payload: &[u8]) -> Step
+    requires { ⌜ (time ≤ 18446744073709541615) × (x .totals .counts .saved + x .totals .counts .fresh ≤ 256) × (x .totals .counts .fresh ≤ 64) ⌝ }
+    ensures { λ r. ⌜ ((w o l k p q : List ℕ) (f : F2List) → toldStep r (lent w o (now (fresh .entry)) l k (now (saved .exit)) p q f) ≡ stepOf (heard kind State.Activating (flatOf x (lent w o (now (fresh .entry)) l k (now (saved .entry)) p q f)) time (now (payload .entry)))) ⌝ }
 {
     let bem = field::byte_at(payload, 0);
     match bem {
-        BEM_ACTIVATE_PGN_ENABLE_LISTS => save(s, time),
-        _ => stay(s),
+        BEM_ACTIVATE_PGN_ENABLE_LISTS => save(x, fresh, saved, time),
+        _ => stay(x),
     }
 }

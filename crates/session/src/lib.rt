@@ -4,16 +4,20 @@
 // Numbers: 6 message over 255 bytes, 7 output under 32, 11 over 64 wanted, 12 a record list over 192, 13 tick over the limit,
 // 14 Format 1 list over 1,024, 16 state not well formed. A refusal changes nothing.
 mod answers;
+mod in_place;
 mod opening;
+mod parts;
 mod reading;
 mod sound;
 mod ticks;
+mod whole;
 mod write;
 
 ghost use mathlib.Core.Path.{_≡_};
 ghost use lib.ListN.{length};
 ghost use Rattle.tx_list.specs.Reading as model;
 ghost use Rattle.session.specs.Sync.{recordOf, toldCalled, called, setTo, restarted, abandoned, begunWith, doneOf, lackOf, toldLacks};
+use bounds::Counts;
 use lists::F2List;
 use tx_list::State;
 
@@ -73,6 +77,47 @@ pub struct Held {
 pub struct TxListSync {
     pub state: State,
     pub held: Held,
+}
+
+// How many each array of a session holds, its due time, and what else is not an array; all of a session but its phase and its arrays.
+pub struct Totals {
+    pub counts: Counts,
+    pub deadline: u64,
+    // A list is known; it was read in Format 2.
+    pub read: bool,
+    pub complete: bool,
+    // The firmware was told, and its version times 1000.
+    pub told: bool,
+    pub version: u16,
+    // No part of Format 2 is in hand, whatever stands in the array of parts.
+    pub blank: bool,
+}
+
+// A session in lent memory: its phase and its numbers. The arrays stand where the caller keeps them (in_place.rt).
+pub struct Numbers {
+    pub state: State,
+    pub totals: Totals,
+}
+
+// What a message or a tick in lent memory answers: 0 or the refusal's number, how many bytes were written, and the numbers.
+pub struct Answered {
+    pub number: u8,
+    pub count: usize,
+    pub numbers: Numbers,
+}
+
+// The same with the parts of Format 2.
+pub struct Parted {
+    pub number: u8,
+    pub count: usize,
+    pub numbers: Numbers,
+    pub f2: F2List,
+}
+
+// What begin, restart, setting firmware and abandoning answer in lent memory: 0 or the refusal's number, and the numbers.
+pub struct Renewed {
+    pub number: u8,
+    pub numbers: Numbers,
 }
 
 // What a message or a tick answers: 0 or the refusal's number, how many bytes were written, and the session.
@@ -136,113 +181,54 @@ impl TxListSync {
     pub fn restart(self) -> Begun
         ensures { λ r. ⌜ r ≡ restarted self ⌝ }
     {
-        if !sound::is_sound(self) {
-            return Begun {
-                number: 16,
-                sync: self,
-            };
-        }
-        if !sound::record_fits(self.held.learned) {
-            return Begun {
-                number: 12,
-                sync: self,
-            };
-        }
-        let sync = opening::started_over(self);
-        Begun { number: 0, sync }
+        whole::renewed(self, whole::numbers_of(self).restart())
     }
 
     // A message of the gateway at a time. Refuses with 16, 13, 6, 7, 14.
     pub fn message(self, time: u64, payload: &[u8], out: &mut [u8]) -> Called
         ensures { λ r. ⌜ toldCalled r (now (out .exit)) ≡ called self (model.message time (now (payload .entry)) (length (now (out .entry)))) (now (out .entry)) ⌝ }
     {
-        if !sound::is_sound(self) {
-            return write::refused(16, self);
+        let st = self.state;
+        if parts::reads_f2(st) {
+            whole::part_in(self, time, payload, out)
+        } else {
+            whole::message_in(self, time, payload, out)
         }
-        if TICK_LIMIT < time {
-            return write::refused(13, self);
-        }
-        if 255 < payload.len() {
-            return write::refused(6, self);
-        }
-        if out.len() < 32 {
-            return write::refused(7, self);
-        }
-        if reading::is_full(self, payload) {
-            return write::refused(14, self);
-        }
-        let step = reading::heard(self, time, payload);
-        write::told(step, out)
     }
 
     // The passing of time. Refuses with 16, 13, 7.
     pub fn tick(self, time: u64, out: &mut [u8]) -> Called
         ensures { λ r. ⌜ toldCalled r (now (out .exit)) ≡ called self (model.tick time (length (now (out .entry)))) (now (out .entry)) ⌝ }
     {
-        if !sound::is_sound(self) {
-            return write::refused(16, self);
-        }
-        if TICK_LIMIT < time {
-            return write::refused(13, self);
-        }
-        if out.len() < 32 {
-            return write::refused(7, self);
-        }
-        let step = ticks::ticked(self, time);
-        write::told(step, out)
+        let a = whole::numbers_of(self).tick(time, out);
+        whole::answered(self, a)
     }
 
     // The gateway's firmware version times 1000, from its product information. Refuses with 16.
     pub fn set_firmware(self, version: u16) -> Begun
         ensures { λ r. ⌜ r ≡ setTo self version ⌝ }
     {
-        if !sound::is_sound(self) {
-            return Begun {
-                number: 16,
-                sync: self,
-            };
-        }
-        let sync = opening::with_firmware(self, version);
-        Begun { number: 0, sync }
+        whole::renewed(self, whole::numbers_of(self).set_firmware(version))
     }
 
     // The gateway has no list to set: the session is done and no list is known. Refuses with 16.
     pub fn abandon(self) -> Begun
         ensures { λ r. ⌜ r ≡ abandoned self ⌝ }
     {
-        if !sound::is_sound(self) {
-            return Begun {
-                number: 16,
-                sync: self,
-            };
-        }
-        let step = ticks::give_up(self);
-        let sync = step.sync;
-        Begun { number: 0, sync }
+        whole::renewed(self, whole::numbers_of(self).abandon())
     }
 
     // Whether the session is done. Refuses with 16.
     pub fn is_done(self) -> IsDone
         ensures { λ r. ⌜ r ≡ doneOf self ⌝ }
     {
-        if !sound::is_sound(self) {
-            return IsDone {
-                number: 16,
-                done: false,
-            };
-        }
-        let st = self.state;
-        let done = opening::in_done(st);
-        IsDone { number: 0, done }
+        whole::numbers_of(self).is_done()
     }
 
     // Whether the gateway's list, once read, lacks the PGN. Refuses with 16.
     pub fn lacks(self, pgn: u32) -> Lacks
         ensures { λ r. ⌜ toldLacks r ≡ lackOf self pgn ⌝ }
     {
-        if !sound::is_sound(self) {
-            return Lacks::Refused(16);
-        }
-        opening::lacking(self.held.known, pgn)
+        whole::numbers_of(self).lacks(&self.held.known.list.pgns, pgn)
     }
 }

@@ -8,18 +8,21 @@ use super::List64;
 use super::List256;
 use super::List1024;
 use super::List1344;
+use super::Numbers;
 use super::TxListRecord;
 use super::TxListSync;
 use lists::F2List;
 use tx_list::State;
 ghost use mathlib.Core.Path.{_≡_};
-ghost use Prim.Native.Nat.{_≤_};
+ghost use Prim.Native.Nat.{ℕ, _≤_};
 ghost use lib.ListN.{length, replicate};
 ghost use mathlib.Core.Bool.{true};
 ghost use Rattle.tx_list.specs.Session.{begins, lacks};
 ghost use Rattle.tx_list.specs.Memory.{live, fill, writeFlat};
 ghost use Rattle.tx_list.specs.Moves.{startsOver, withFirmware};
+ghost use mathlib.Core.List.{List};
 ghost use Rattle.session.specs.Sync.{kind, clear, of256, to256, ofSync, toSync, recordOf, knownOf, doneIn, says, toldLacks};
+ghost use Rattle.session.specs.Lent.{Arrays, lent, syncOf, flatOf};
 
 // A session that wants nothing and knows nothing.
 fn clear_sync() -> TxListSync
@@ -116,29 +119,32 @@ pub(crate) fn new_sync(wanted: &[u32], learned: TxListRecord) -> TxListSync
     }
 }
 
-pub(crate) fn started_over(s: TxListSync) -> TxListSync
-    ensures { λ r. ⌜ r ≡ toSync (startsOver kind (ofSync s)) ⌝ }
+pub(crate) fn started_over(x: Numbers) -> Numbers
+    ensures { λ r. ⌜ ((a : Arrays) → syncOf r a ≡ toSync (startsOver kind (flatOf x a))) ⌝ }
 {
-    let mut h = s.held;
-    h.known.read = false;
-    h.known.complete = false;
-    h.known.list.n = 0;
-    h.deadline = 0;
-    h.firmware.told = false;
-    TxListSync {
+    let mut t = x.totals;
+    t.read = false;
+    t.complete = false;
+    t.counts.known = 0;
+    t.deadline = 0;
+    t.told = false;
+    Numbers {
         state: State::AwaitStartup,
-        held: h,
+        totals: t,
     }
 }
 
-pub(crate) fn with_firmware(s: TxListSync, version: u16) -> TxListSync
-    ensures { λ r. ⌜ r ≡ toSync (withFirmware (ofSync s) true version) ⌝ }
+pub(crate) fn with_firmware(x: Numbers, version: u16) -> Numbers
+    ensures { λ r. ⌜ ((a : Arrays) → syncOf r a ≡ toSync (withFirmware (flatOf x a) true version)) ⌝ }
 {
-    let st = s.state;
-    let mut h = s.held;
-    h.firmware.told = true;
-    h.firmware.version = version;
-    TxListSync { state: st, held: h }
+    let st = x.state;
+    let mut t = x.totals;
+    t.told = true;
+    t.version = version;
+    Numbers {
+        state: st,
+        totals: t,
+    }
 }
 
 pub(crate) fn in_done(st: State) -> bool
@@ -156,17 +162,17 @@ pub(crate) fn in_done(st: State) -> bool
     }
 }
 
-pub(crate) fn lacking(k: Known, pgn: u32) -> Lacks
-    ensures { λ r. ⌜ toldLacks r ≡ says (lacks (knownOf k) pgn) ⌝ }
+pub(crate) fn lacking(x: Numbers, known: &[u32; 1344], pgn: u32) -> Lacks
+    ensures { λ r. ⌜ ((w o u l s p q : List ℕ) (f : F2List) → toldLacks r ≡ says (lacks (knownOf (syncOf x (lent w o u l (now (known .entry)) s p q f) .held .known)) pgn)) ⌝ }
 {
-    let n = k.list.n;
-    if !k.read {
+    let t = x.totals;
+    if !t.read {
         return Lacks::Nothing;
     }
-    if pgns::has(&k.list.pgns, n, pgn) {
+    if pgns::has(known, t.counts.known, pgn) {
         return Lacks::Nothing;
     }
-    if k.complete {
+    if t.complete {
         Lacks::Whole
     } else {
         Lacks::Partial

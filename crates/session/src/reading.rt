@@ -1,33 +1,30 @@
 // A message while the list is read, and what follows once it is.
-use super::ANSWER_TIMEOUT_MS;
-use super::Known;
-use super::List64;
-use super::List256;
-use super::List1024;
-use super::List1344;
+use super::Numbers;
 use super::READ_DELAY_MS;
-use super::TxListSync;
+use super::Totals;
 use super::answers;
-use super::ticks::start_f1;
+use super::answers::await_answer;
 use super::write::Sent;
 use super::write::Step;
 use super::write::stay;
-use lists::F2List;
-use lists::F2Read;
-use replies::BEM_SUPPORTED_PGN_LIST;
+use replies::BEM_ACTIVATE_PGN_ENABLE_LISTS;
+use replies::BEM_COMMIT_TO_EEPROM;
+use replies::BEM_TX_PGN_ENABLE;
+use replies::BEM_TX_PGN_ENABLE_LIST_F1;
 use tx_list::State;
 use views::F1Kind;
-use views::F2Kind;
 ghost use mathlib.Core.Path.{_≡_};
 ghost use mathlib.Core.Bool.{true, false};
-ghost use Prim.Native.Nat.{_≤_, _+_};
+ghost use mathlib.Core.List.{List};
+ghost use Prim.Native.Nat.{ℕ, _≤_, _+_};
 ghost use lib.ListN.{length, take};
 ghost use lib.Seq.{sets};
-ghost use Rattle.lists.specs.Format2.{formed, pgnsOf};
-ghost use Rattle.tx_list.specs.Views.{listPgns, f1Of, f2Of, notes};
-ghost use Rattle.tx_list.specs.Memory.{live};
-ghost use Rattle.tx_list.specs.Moves.{soundIn, fullIn, withKnown, owing, asks, addsTo, gets, puts, inF1, inF2, inWhole, heard};
-ghost use Rattle.session.specs.Sync.{kind, put, overList, of256, of1024, of1344, to1344, ofSync, toldStep, stepOf};
+ghost use Rattle.lists.specs.declared.F2List.{F2List};
+ghost use Rattle.pgns.specs.Lists.{noted};
+ghost use Rattle.tx_list.specs.Views.{listPgns, f1Of};
+ghost use Rattle.tx_list.specs.Moves.{fullIn, asks, owing, addsTo, gets, inF1, heard};
+ghost use Rattle.session.specs.Sync.{kind, overList, stepOf};
+ghost use Rattle.session.specs.Lent.{Arrays, lent, flatOf, toldStep, soundFor, readsF2, knownTotals, mindsIn};
 
 // 14: the list of Format 1 would pass its capacity.
 fn passes(n: usize, payload: &[u8]) -> bool
@@ -42,13 +39,13 @@ fn passes(n: usize, payload: &[u8]) -> bool
     }
 }
 
-pub(crate) fn is_full(s: TxListSync, payload: &[u8]) -> bool
-    requires { ⌜ s .held .list .n ≤ 1024 ⌝ }
-    ensures { λ r. ⌜ r ≡ fullIn kind (s .state) (ofSync s) (now (payload .entry)) ⌝ }
+pub(crate) fn is_full(x: Numbers, payload: &[u8]) -> bool
+    requires { ⌜ x .totals .counts .list ≤ 1024 ⌝ }
+    ensures { λ r. ⌜ ((a : Arrays) → r ≡ fullIn kind (x .state) (flatOf x a) (now (payload .entry))) ⌝ }
 {
-    let st = s.state;
+    let st = x.state;
     match st {
-        State::Reading(_) => passes(s.held.list.n, payload),
+        State::Reading(_) => passes(x.totals.counts.list, payload),
         State::AwaitStartup => false,
         State::ReadAt => false,
         State::ReadingF2(_) => false,
@@ -60,204 +57,211 @@ pub(crate) fn is_full(s: TxListSync, payload: &[u8]) -> bool
 }
 
 // The mode came: the list is read 2,000 ms later.
-fn on_mode(s: TxListSync, time: u64, payload: &[u8]) -> Step
+fn on_mode(x: Numbers, time: u64, payload: &[u8]) -> Step
     requires { ⌜ time ≤ 18446744073709541615 ⌝ }
-    ensures { λ r. ⌜ toldStep r ≡ stepOf (heard kind State.AwaitStartup (ofSync s) time (now (payload .entry))) ⌝ }
+    ensures { λ r. ⌜ ((a : Arrays) → toldStep r a ≡ stepOf (heard kind State.AwaitStartup (flatOf x a) time (now (payload .entry)))) ⌝ }
 {
     if views::is_mode(payload) {
-        let mut h = s.held;
-        h.deadline = time + READ_DELAY_MS;
-        let sync = TxListSync {
+        let mut t = x.totals;
+        t.deadline = time + READ_DELAY_MS;
+        let numbers = Numbers {
             state: State::ReadAt,
-            held: h,
+            totals: t,
         };
         Step {
             sent: Sent::Nothing,
-            sync,
+            numbers,
         }
     } else {
-        stay(s)
+        stay(x)
     }
 }
 
 // PGNs more of a list in Format 1.
-fn add_f1(s: TxListSync, time: u64, payload: &[u8]) -> Step
-    requires { ⌜ (time ≤ 18446744073709541615) × (s .held .list .n + length (listPgns (now payload)) ≤ 1024) ⌝ }
-    ensures { λ r. ⌜ toldStep r ≡ stepOf (addsTo kind (ofSync s) (listPgns (now (payload .entry))) time) ⌝ }
+fn add_f1(x: Numbers, list: &mut [u32; 1024], time: u64, payload: &[u8]) -> Step
+    requires { ⌜ (time ≤ 18446744073709541615) × (x .totals .counts .list + length (listPgns (now payload)) ≤ 1024) ⌝ }
+    ensures { λ r. ⌜ ((w o u k s p q : List ℕ) (f : F2List) → toldStep r (lent w o u (now (list .exit)) k s p q f) ≡ stepOf (addsTo kind (flatOf x (lent w o u (now (list .entry)) k s p q f)) (listPgns (now (payload .entry))) time)) ⌝ }
 {
-    let st = s.state;
-    let mut h = s.held;
-    let at = h.list.n;
+    let mut t = x.totals;
+    let at = t.counts.list;
     let n = views::group_count(payload);
-    let mut a = h.list.pgns;
-    pgns::add_pgns(&mut a, at, payload, 13, n);
-    let list = List1024 { pgns: a, n: at + n };
-    h.list = list;
-    h.deadline = time + ANSWER_TIMEOUT_MS;
-    let sync = TxListSync { state: st, held: h };
+    pgns::add_pgns(list, at, payload, 13, n);
+    let end = at + n;
+    t.counts.list = end;
+    let st = x.state;
+    let numbers = await_answer(t, st, time);
     Step {
         sent: Sent::Nothing,
-        sync,
+        numbers,
     }
 }
 
-// A list was read, n PGNs at the front of the known list: the PGNs owed are asked for, or the session is done.
-fn on_list(s: TxListSync, known: Known, n: usize, time: u64) -> Step
-    requires { ⌜ (time ≤ 18446744073709541615) × (s .held .wanted .n ≤ 64) ⌝ }
-    ensures { λ r. ⌜ toldStep r ≡ stepOf (asks kind (withKnown (ofSync s) (known .read) (known .complete) (of1344 (known .list))) (owing kind (ofSync s) (take n (known .list .pgns))) time) ⌝ }
+// A list was read, n PGNs at the front of the known array: the PGNs owed are asked for, or the session is done.
+fn on_list(
+    x: Numbers,
+    n: usize,
+    wanted: &mut [u32; 64],
+    owed: &mut [u32; 64],
+    known: &mut [u32; 1344],
+    present: &mut [u32; 256],
+    refused: &mut [u32; 256],
+    time: u64,
+) -> Step
+    requires { ⌜ (time ≤ 18446744073709541615) × (x .totals .counts .wanted ≤ 64) ⌝ }
+    ensures { λ r. ⌜ ((u l s : List ℕ) (f : F2List) → toldStep r (lent (now (wanted .exit)) (now (owed .exit)) u l (now (known .exit)) s (now (present .exit)) (now (refused .exit)) f) ≡ stepOf (asks kind (flatOf x (lent (now (wanted .entry)) (now (owed .entry)) u l (now (known .entry)) s (now (present .entry)) (now (refused .entry)) f)) (owing kind (flatOf x (lent (now (wanted .entry)) (now (owed .entry)) u l (now (known .entry)) s (now (present .entry)) (now (refused .entry)) f)) (take n (now (known .entry)))) time)) ⌝ }
 {
-    let mut h = s.held;
-    h.known = known;
-    h.deadline = time + ANSWER_TIMEOUT_MS;
-    let mut a = h.owed.pgns;
-    let w = h.wanted.n;
-    let p = h.learned.present.n;
-    let r = h.learned.refused.n;
-    let owed = pgns::owed_into(
-        &mut a,
-        &h.wanted.pgns,
-        w,
-        &h.known.list.pgns,
+    let mut t = x.totals;
+    let c = t.counts;
+    let count = pgns::owed_into(
+        owed,
+        wanted,
+        c.wanted,
+        known,
         n,
-        &h.learned.present.pgns,
-        p,
-        &h.learned.refused.pgns,
-        r,
+        present,
+        c.present,
+        refused,
+        c.refused,
     );
-    if owed == 0 {
-        let sync = TxListSync {
-            state: State::Done,
-            held: h,
-        };
+    if count == 0 {
+        let numbers = await_answer(t, State::Done, time);
         return Step {
             sent: Sent::Nothing,
-            sync,
+            numbers,
         };
     }
-    let first = a[0];
-    let list = List64 { pgns: a, n: owed };
-    h.owed = list;
-    h.fresh.n = 0;
-    let sync = TxListSync {
-        state: State::Enabling,
-        held: h,
-    };
+    let first = owed[0];
+    t.counts.owed = count;
+    t.counts.fresh = 0;
+    let numbers = await_answer(t, State::Enabling, time);
     Step {
         sent: Sent::Enable(first),
-        sync,
+        numbers,
     }
 }
 
-// The known list: the n PGNs at the front of the array, then the present ones that are absent.
-fn known_of(pgns: [u32; 1344], n: usize, present: List256, complete: bool) -> Known
-    requires { ⌜ n + present .n ≤ 1344 ⌝ }
-    ensures { λ r. ⌜ r ≡ record { read = true; complete = complete; list = to1344 (record { items = sets pgns 0 (notes (take n pgns) (live (of256 present))); n = length (notes (take n pgns) (live (of256 present))) }) } ⌝ }
+// The known list: the n PGNs at the front of its array, then the present ones that are absent.
+fn know(t: Totals, n: usize, known: &mut [u32; 1344], present: &[u32; 256], complete: bool) -> Totals
+    ensures { λ r. ⌜ r ≡ knownTotals t complete (noted (now (known .entry)) n (now (present .entry)) (t .counts .present) .n) ⌝ }
+    ensures { λ r. ⌜ now (known .exit) ≡ noted (now (known .entry)) n (now (present .entry)) (t .counts .present) .items ⌝ }
 {
-    let m = present.n;
-    let mut a = pgns;
-    let count = pgns::note_all(&mut a, n, &present.pgns, m);
-    let list = List1344 { pgns: a, n: count };
-    Known {
-        read: true,
-        complete,
-        list,
-    }
+    let mut u = t;
+    let count = pgns::note_all(known, n, present, t.counts.present);
+    u.counts.known = count;
+    u.read = true;
+    u.complete = complete;
+    u
+}
+
+// A list of n PGNs stands at the front of the known array.
+pub(crate) fn got(
+    x: Numbers,
+    n: usize,
+    wanted: &mut [u32; 64],
+    owed: &mut [u32; 64],
+    known: &mut [u32; 1344],
+    present: &mut [u32; 256],
+    refused: &mut [u32; 256],
+    complete: bool,
+    time: u64,
+) -> Step
+    requires { ⌜ (time ≤ 18446744073709541615) × (x .totals .counts .wanted ≤ 64) × (x .totals .counts .present ≤ 256) × (n + 256 ≤ 1344) ⌝ }
+    ensures { λ r. ⌜ ((u l k s : List ℕ) (f : F2List) → length k ≡ 1344 → now (known .entry) ≡ sets k 0 (take n (now (known .entry))) → toldStep r (lent (now (wanted .exit)) (now (owed .exit)) u l (now (known .exit)) s (now (present .exit)) (now (refused .exit)) f) ≡ stepOf (gets kind (flatOf x (lent (now (wanted .entry)) (now (owed .entry)) u l k s (now (present .entry)) (now (refused .entry)) f)) (take n (now (known .entry))) complete time)) ⌝ }
+{
+    let t = know(x.totals, n, known, present, complete);
+    let st = x.state;
+    let y = Numbers {
+        state: st,
+        totals: t,
+    };
+    on_list(y, n, wanted, owed, known, present, refused, time)
 }
 
 // The list in Format 1 has ended.
-fn end_f1(s: TxListSync, time: u64) -> Step
-    requires { ⌜ (time ≤ 18446744073709541615) × (s .held .wanted .n ≤ 64) × (s .held .list .n ≤ 1024) × (s .held .learned .present .n ≤ 256) ⌝ }
-    ensures { λ r. ⌜ toldStep r ≡ stepOf (gets kind (ofSync s) (live (of1024 (s .held .list))) false time) ⌝ }
+fn end_f1(
+    x: Numbers,
+    wanted: &mut [u32; 64],
+    owed: &mut [u32; 64],
+    list: &[u32; 1024],
+    known: &mut [u32; 1344],
+    present: &mut [u32; 256],
+    refused: &mut [u32; 256],
+    time: u64,
+) -> Step
+    requires { ⌜ (time ≤ 18446744073709541615) × (x .totals .counts .wanted ≤ 64) × (x .totals .counts .list ≤ 1024) × (x .totals .counts .present ≤ 256) ⌝ }
+    ensures { λ r. ⌜ ((u s : List ℕ) (f : F2List) → toldStep r (lent (now (wanted .exit)) (now (owed .exit)) u (now (list .entry)) (now (known .exit)) s (now (present .exit)) (now (refused .exit)) f) ≡ stepOf (gets kind (flatOf x (lent (now (wanted .entry)) (now (owed .entry)) u (now (list .entry)) (now (known .entry)) s (now (present .entry)) (now (refused .entry)) f)) (take (x .totals .counts .list) (now (list .entry))) false time)) ⌝ }
 {
-    let n = s.held.list.n;
-    let mut a = s.held.known.list.pgns;
-    pgns::append(&mut a, 0, &s.held.list.pgns, n);
-    let known = known_of(a, n, s.held.learned.present, false);
-    on_list(s, known, n, time)
+    let n = x.totals.counts.list;
+    pgns::append(known, 0, list, n);
+    got(x, n, wanted, owed, known, present, refused, false, time)
 }
 
-fn on_f1(s: TxListSync, time: u64, payload: &[u8]) -> Step
-    requires { ⌜ (time ≤ 18446744073709541615) × (s .held .wanted .n ≤ 64) × (s .held .list .n ≤ 1024) × (s .held .learned .present .n ≤ 256) ⌝ }
-    requires { ⌜ overList (s .held .list .n) (now payload) ≡ false ⌝ }
-    ensures { λ r. ⌜ toldStep r ≡ stepOf (inF1 kind (f1Of (now (payload .entry))) (ofSync s) time) ⌝ }
+fn on_f1(
+    x: Numbers,
+    wanted: &mut [u32; 64],
+    owed: &mut [u32; 64],
+    list: &mut [u32; 1024],
+    known: &mut [u32; 1344],
+    present: &mut [u32; 256],
+    refused: &mut [u32; 256],
+    time: u64,
+    payload: &[u8],
+) -> Step
+    requires { ⌜ (time ≤ 18446744073709541615) × (x .totals .counts .wanted ≤ 64) × (x .totals .counts .list ≤ 1024) × (x .totals .counts .present ≤ 256) ⌝ }
+    requires { ⌜ overList (x .totals .counts .list) (now payload) ≡ false ⌝ }
+    ensures { λ r. ⌜ ((u s : List ℕ) (f : F2List) → toldStep r (lent (now (wanted .exit)) (now (owed .exit)) u (now (list .exit)) (now (known .exit)) s (now (present .exit)) (now (refused .exit)) f) ≡ stepOf (inF1 kind (f1Of (now (payload .entry))) (flatOf x (lent (now (wanted .entry)) (now (owed .entry)) u (now (list .entry)) (now (known .entry)) s (now (present .entry)) (now (refused .entry)) f)) time)) ⌝ }
 {
     let kind = views::f1_kind(payload);
     match kind {
-        F1Kind::Adds => add_f1(s, time, payload),
-        F1Kind::Ends => end_f1(s, time),
-        F1Kind::Neither => stay(s),
+        F1Kind::Adds => add_f1(x, list, time, payload),
+        F1Kind::Ends => end_f1(x, wanted, owed, list, known, present, refused, time),
+        F1Kind::Neither => stay(x),
     }
 }
 
-// A part of a list in Format 2, by the reply byte.
-fn put_part(f2: F2List, payload: &[u8]) -> F2List
-    ensures { λ r. ⌜ r ≡ put (now (payload .entry)) f2 ⌝ }
+// Whether a message is of interest in this phase.
+pub(crate) fn minds(x: Numbers, payload: &[u8]) -> bool
+    ensures { λ r. ⌜ r ≡ mindsIn (x .state) (now (payload .entry)) ⌝ }
 {
-    let d = replies::data_of(payload);
-    let bem = field::byte_at(payload, 0);
-    match bem {
-        BEM_SUPPORTED_PGN_LIST => f2.add_supported(d),
-        _ => f2.add_enabled(d),
-    }
-}
-
-fn store_part(s: TxListSync, f2: F2List, time: u64) -> Step
-    requires { ⌜ time ≤ 18446744073709541615 ⌝ }
-    ensures { λ r. ⌜ toldStep r ≡ stepOf (puts kind (ofSync s) f2 time) ⌝ }
-{
-    let st = s.state;
-    let mut h = s.held;
-    h.f2 = f2;
-    h.deadline = time + ANSWER_TIMEOUT_MS;
-    let sync = TxListSync { state: st, held: h };
-    Step {
-        sent: Sent::Nothing,
-        sync,
-    }
-}
-
-fn on_part(s: TxListSync, time: u64, payload: &[u8]) -> Step
-    requires { ⌜ (time ≤ 18446744073709541615) × (s .held .wanted .n ≤ 64) × (s .held .learned .present .n ≤ 256) × (formed (s .held .f2) ≡ true) ⌝ }
-    ensures { λ r. ⌜ toldStep r ≡ stepOf (inWhole kind (pgnsOf (put (now (payload .entry)) (s .held .f2))) (ofSync s) (put (now (payload .entry)) (s .held .f2)) time) ⌝ }
-{
-    let f2 = put_part(s.held.f2, payload);
-    let mut a = s.held.known.list.pgns;
-    let read = f2.pgns(&mut a);
-    match read {
-        F2Read::Whole(n) => {
-            let known = known_of(a, n, s.held.learned.present, true);
-            on_list(s, known, n, time)
-        }
-        F2Read::Partial => store_part(s, f2, time),
-        F2Read::Refused(_) => stay(s),
-    }
-}
-
-fn on_f2(s: TxListSync, time: u64, payload: &[u8]) -> Step
-    requires { ⌜ (time ≤ 18446744073709541615) × (s .held .wanted .n ≤ 64) × (s .held .learned .present .n ≤ 256) × (formed (s .held .f2) ≡ true) ⌝ }
-    ensures { λ r. ⌜ toldStep r ≡ stepOf (inF2 kind (f2Of (now (payload .entry))) (ofSync s) time (now (payload .entry))) ⌝ }
-{
-    let kind = views::f2_kind(payload);
-    match kind {
-        F2Kind::Wrong => start_f1(s, 1, time),
-        F2Kind::Part => on_part(s, time, payload),
-        F2Kind::Alien => stay(s),
-    }
-}
-
-pub(crate) fn heard(s: TxListSync, time: u64, payload: &[u8]) -> Step
-    requires { ⌜ (time ≤ 18446744073709541615) × (soundIn kind (ofSync s) ≡ true) × (fullIn kind (s .state) (ofSync s) (now payload) ≡ false) ⌝ }
-    ensures { λ r. ⌜ toldStep r ≡ stepOf (heard kind (s .state) (ofSync s) time (now (payload .entry))) ⌝ }
-{
-    let st = s.state;
+    let st = x.state;
     match st {
-        State::AwaitStartup => on_mode(s, time, payload),
-        State::ReadAt => stay(s),
-        State::Reading(_) => on_f1(s, time, payload),
-        State::ReadingF2(_) => on_f2(s, time, payload),
-        State::Enabling => answers::on_enable(s, time, payload),
-        State::Committing => answers::on_commit(s, time, payload),
-        State::Activating => answers::on_activate(s, time, payload),
-        State::Done => stay(s),
+        State::AwaitStartup => views::is_mode(payload),
+        State::ReadAt => false,
+        State::Reading(_) => views::starts(payload, BEM_TX_PGN_ENABLE_LIST_F1),
+        State::ReadingF2(_) => views::is_format2(payload),
+        State::Enabling => views::starts(payload, BEM_TX_PGN_ENABLE),
+        State::Committing => views::starts(payload, BEM_COMMIT_TO_EEPROM),
+        State::Activating => views::starts(payload, BEM_ACTIVATE_PGN_ENABLE_LISTS),
+        State::Done => false,
+    }
+}
+
+pub(crate) fn heard(
+    x: Numbers,
+    wanted: &mut [u32; 64],
+    owed: &mut [u32; 64],
+    fresh: &mut [u32; 64],
+    list: &mut [u32; 1024],
+    known: &mut [u32; 1344],
+    saved: &mut [u32; 256],
+    present: &mut [u32; 256],
+    refused: &mut [u32; 256],
+    time: u64,
+    payload: &[u8],
+) -> Step
+    requires { ⌜ (time ≤ 18446744073709541615) × (soundFor x ≡ true) × (readsF2 (x .state) ≡ false) ⌝ }
+    requires { ⌜ ((a : Arrays) → fullIn kind (x .state) (flatOf x a) (now payload) ≡ false) ⌝ }
+    ensures { λ r. ⌜ ((f : F2List) → toldStep r (lent (now (wanted .exit)) (now (owed .exit)) (now (fresh .exit)) (now (list .exit)) (now (known .exit)) (now (saved .exit)) (now (present .exit)) (now (refused .exit)) f) ≡ stepOf (heard kind (x .state) (flatOf x (lent (now (wanted .entry)) (now (owed .entry)) (now (fresh .entry)) (now (list .entry)) (now (known .entry)) (now (saved .entry)) (now (present .entry)) (now (refused .entry)) f)) time (now (payload .entry)))) ⌝ }
+{
+    let st = x.state;
+    match st {
+        State::AwaitStartup => on_mode(x, time, payload),
+        State::ReadAt => stay(x),
+        State::Reading(_) => on_f1(x, wanted, owed, list, known, present, refused, time, payload),
+        State::ReadingF2(_) => stay(x),
+        State::Enabling => answers::on_enable(x, owed, fresh, known, saved, present, refused, time, payload),
+        State::Committing => answers::on_commit(x, time, payload),
+        State::Activating => answers::on_activate(x, fresh, saved, time, payload),
+        State::Done => stay(x),
     }
 }

@@ -1,14 +1,13 @@
 // Whether a session is well formed (16), and its record within the bound of begin and restart (12).
-use super::Held;
+use super::Numbers;
+use super::Totals;
 use super::TxListRecord;
-use super::TxListSync;
 use bounds::Counts;
 use bounds::Limits;
 ghost use mathlib.Core.Path.{_≡_};
-ghost use Rattle.tx_list.specs.Memory.{Sized};
-ghost use Rattle.tx_list.specs.Moves.{soundIn};
-ghost use Rattle.session.specs.Sync.{kind, ofSync, recordFits};
-ghost use Rattle.session.specs.Sound.{helm, countsOf};
+ghost use Rattle.session.specs.Sync.{recordFits};
+ghost use Rattle.session.specs.Sound.{helm};
+ghost use Rattle.session.specs.Lent.{Arrays, syncOf, seen, soundFor};
 
 pub(crate) fn helm_limits() -> Limits
     ensures { λ r. ⌜ r ≡ helm ⌝ }
@@ -21,29 +20,23 @@ pub(crate) fn helm_limits() -> Limits
     }
 }
 
-fn counts_of(h: Held) -> Counts
-    ensures { λ r. ⌜ r ≡ countsOf h ⌝ }
+// The counts; where no part of Format 2 is in hand no proprietary PGN is.
+fn seen(t: Totals) -> Counts
+    ensures { λ r. ⌜ r ≡ seen t ⌝ }
 {
-    Counts {
-        wanted: h.wanted.n,
-        owed: h.owed.n,
-        fresh: h.fresh.n,
-        list: h.list.n,
-        proprietary: h.f2.proprietary.list.n,
-        known: h.known.list.n,
-        saved: h.learned.saved.n,
-        present: h.learned.present.n,
-        refused: h.learned.refused.n,
+    let mut c = t.counts;
+    if t.blank {
+        c.proprietary = 0;
     }
+    c
 }
 
-// Whether the session is well formed. Its arrays have their lengths, as those of every session.
-pub(crate) fn is_sound(s: TxListSync) -> bool
-    ensures { λ r. ⌜ r ≡ soundIn kind (ofSync s) ⌝ }
-    ensures { λ r. ⌜ Sized kind (ofSync s) ⌝ }
+// Whether the session is well formed.
+pub(crate) fn is_sound(x: Numbers) -> bool
+    ensures { λ r. ⌜ r ≡ soundFor x ⌝ }
 {
-    let st = s.state;
-    bounds::sound_at(helm_limits(), counts_of(s.held), st)
+    let st = x.state;
+    bounds::sound_at(helm_limits(), seen(x.totals), st)
 }
 
 // Whether no list of the record passes 192 (12).
@@ -51,4 +44,11 @@ pub(crate) fn record_fits(learned: TxListRecord) -> bool
     ensures { λ r. ⌜ r ≡ recordFits learned ⌝ }
 {
     bounds::lists_fit(learned.saved.n, learned.present.n, learned.refused.n)
+}
+
+pub(crate) fn record_within(x: Numbers) -> bool
+    ensures { λ r. ⌜ ((a : Arrays) → r ≡ recordFits (syncOf x a .held .learned)) ⌝ }
+{
+    let c = x.totals.counts;
+    bounds::lists_fit(c.saved, c.present, c.refused)
 }

@@ -1,147 +1,162 @@
-// A tick: the start of a read, another attempt, or the end.
+// A tick: the start of a read, another attempt, or the end. Only numbers change.
 use super::ANSWER_TIMEOUT_MS;
 use super::F2_FIRMWARE;
+use super::Numbers;
 use super::READ_ATTEMPTS;
-use super::TxListSync;
 use super::write::Sent;
 use super::write::Step;
 use super::write::stay;
-use lists::F2List;
 use tx_list::State;
 ghost use mathlib.Core.Path.{_≡_};
 ghost use Prim.Native.Nat.{_≤_};
 ghost use Rattle.tx_list.specs.Moves.{startF1, startF2, finishes, givesUp, late, ticked};
-ghost use Rattle.session.specs.Sync.{kind, ofSync, toldStep, stepOf};
+ghost use Rattle.session.specs.Sync.{kind, stepOf};
+ghost use Rattle.session.specs.Lent.{Arrays, flatOf, toldStep, dueAt};
 
 // Format 1 is asked for, with an empty list.
-pub(crate) fn start_f1(s: TxListSync, attempt: u32, time: u64) -> Step
+pub(crate) fn start_f1(x: Numbers, attempt: u32, time: u64) -> Step
     requires { ⌜ time ≤ 18446744073709541615 ⌝ }
-    ensures { λ r. ⌜ toldStep r ≡ stepOf (startF1 kind (ofSync s) attempt time) ⌝ }
+    ensures { λ r. ⌜ ((a : Arrays) → toldStep r a ≡ stepOf (startF1 kind (flatOf x a) attempt time)) ⌝ }
 {
-    let mut h = s.held;
-    h.list.n = 0;
-    h.deadline = time + ANSWER_TIMEOUT_MS;
-    let sync = TxListSync {
-        state: State::Reading(attempt),
-        held: h,
-    };
+    let mut t = x.totals;
+    t.counts.list = 0;
+    t.deadline = time + ANSWER_TIMEOUT_MS;
     Step {
         sent: Sent::ReadF1,
-        sync,
+        numbers: Numbers {
+            state: State::Reading(attempt),
+            totals: t,
+        },
     }
 }
 
 // Format 2 is asked for, with no part in hand.
-pub(crate) fn start_f2(s: TxListSync, attempt: u32, time: u64) -> Step
+pub(crate) fn start_f2(x: Numbers, attempt: u32, time: u64) -> Step
     requires { ⌜ time ≤ 18446744073709541615 ⌝ }
-    ensures { λ r. ⌜ toldStep r ≡ stepOf (startF2 kind (ofSync s) attempt time) ⌝ }
+    ensures { λ r. ⌜ ((a : Arrays) → toldStep r a ≡ stepOf (startF2 kind (flatOf x a) attempt time)) ⌝ }
 {
-    let mut h = s.held;
-    let f = F2List::new();
-    h.f2 = f;
-    h.deadline = time + ANSWER_TIMEOUT_MS;
-    let sync = TxListSync {
-        state: State::ReadingF2(attempt),
-        held: h,
-    };
+    let mut t = x.totals;
+    t.blank = true;
+    t.deadline = time + ANSWER_TIMEOUT_MS;
     Step {
         sent: Sent::ReadF2,
-        sync,
+        numbers: Numbers {
+            state: State::ReadingF2(attempt),
+            totals: t,
+        },
     }
 }
 
 // The session is done.
-fn finish(s: TxListSync) -> Step
-    ensures { λ r. ⌜ toldStep r ≡ stepOf (finishes kind (ofSync s)) ⌝ }
+fn finish(x: Numbers) -> Step
+    ensures { λ r. ⌜ ((a : Arrays) → toldStep r a ≡ stepOf (finishes kind (flatOf x a))) ⌝ }
 {
-    let h = s.held;
-    let sync = TxListSync {
-        state: State::Done,
-        held: h,
-    };
+    let t = x.totals;
     Step {
         sent: Sent::Nothing,
-        sync,
+        numbers: Numbers {
+            state: State::Done,
+            totals: t,
+        },
     }
 }
 
 // The session is done, and no list is known.
-pub(crate) fn give_up(s: TxListSync) -> Step
-    ensures { λ r. ⌜ toldStep r ≡ stepOf (givesUp kind (ofSync s)) ⌝ }
+pub(crate) fn give_up(x: Numbers) -> Step
+    ensures { λ r. ⌜ ((a : Arrays) → toldStep r a ≡ stepOf (givesUp kind (flatOf x a))) ⌝ }
 {
-    let mut h = s.held;
-    h.known.read = false;
-    h.known.complete = false;
-    h.known.list.n = 0;
-    let sync = TxListSync {
-        state: State::Done,
-        held: h,
-    };
+    let mut t = x.totals;
+    t.read = false;
+    t.complete = false;
+    t.counts.known = 0;
     Step {
         sent: Sent::Nothing,
-        sync,
+        numbers: Numbers {
+            state: State::Done,
+            totals: t,
+        },
     }
 }
 
-fn start_read(s: TxListSync, time: u64) -> Step
+fn start_read(x: Numbers, time: u64) -> Step
     requires { ⌜ time ≤ 18446744073709541615 ⌝ }
-    ensures { λ r. ⌜ toldStep r ≡ stepOf (late kind State.ReadAt (ofSync s) time) ⌝ }
+    ensures { λ r. ⌜ ((a : Arrays) → toldStep r a ≡ stepOf (late kind State.ReadAt (flatOf x a) time)) ⌝ }
 {
-    let f = s.held.firmware;
-    if f.told & (F2_FIRMWARE <= f.version) {
-        start_f2(s, 1, time)
+    let t = x.totals;
+    if t.told & (F2_FIRMWARE <= t.version) {
+        start_f2(x, 1, time)
     } else {
-        start_f1(s, 1, time)
+        start_f1(x, 1, time)
     }
 }
 
-fn late_f1(s: TxListSync, attempt: u32, time: u64) -> Step
+fn late_f1(x: Numbers, attempt: u32, time: u64) -> Step
     requires { ⌜ time ≤ 18446744073709541615 ⌝ }
-    ensures { λ r. ⌜ toldStep r ≡ stepOf (late kind (State.Reading attempt) (ofSync s) time) ⌝ }
-{
-    if attempt < READ_ATTEMPTS {
-        start_f1(s, attempt + 1, time)
-    } else {
-        give_up(s)
-    }
-}
-
-fn late_f2(s: TxListSync, attempt: u32, time: u64) -> Step
-    requires { ⌜ time ≤ 18446744073709541615 ⌝ }
-    ensures { λ r. ⌜ toldStep r ≡ stepOf (late kind (State.ReadingF2 attempt) (ofSync s) time) ⌝ }
+    ensures { λ r. ⌜ ((a : Arrays) → toldStep r a ≡ stepOf (late kind (State.Reading attempt) (flatOf x a) time)) ⌝ }
 {
     if attempt < READ_ATTEMPTS {
-        start_f2(s, attempt + 1, time)
+        start_f1(x, attempt + 1, time)
     } else {
-        start_f1(s, 1, time)
+        give_up(x)
+    }
+}
+
+fn late_f2(x: Numbers, attempt: u32, time: u64) -> Step
+    requires { ⌜ time ≤ 18446744073709541615 ⌝ }
+    ensures { λ r. ⌜ ((a : Arrays) → toldStep r a ≡ stepOf (late kind (State.ReadingF2 attempt) (flatOf x a) time)) ⌝ }
+{
+    if attempt < READ_ATTEMPTS {
+        start_f2(x, attempt + 1, time)
+    } else {
+        start_f1(x, 1, time)
     }
 }
 
 // At or after the due time.
-fn late_at(s: TxListSync, st: State, time: u64) -> Step
+fn late_at(x: Numbers, st: State, time: u64) -> Step
     requires { ⌜ time ≤ 18446744073709541615 ⌝ }
-    ensures { λ r. ⌜ toldStep r ≡ stepOf (late kind st (ofSync s) time) ⌝ }
+    ensures { λ r. ⌜ ((a : Arrays) → toldStep r a ≡ stepOf (late kind st (flatOf x a) time)) ⌝ }
 {
     match st {
-        State::AwaitStartup => stay(s),
-        State::ReadAt => start_read(s, time),
-        State::Reading(a) => late_f1(s, a, time),
-        State::ReadingF2(a) => late_f2(s, a, time),
-        State::Enabling => finish(s),
-        State::Committing => finish(s),
-        State::Activating => finish(s),
-        State::Done => stay(s),
+        State::AwaitStartup => stay(x),
+        State::ReadAt => start_read(x, time),
+        State::Reading(n) => late_f1(x, n, time),
+        State::ReadingF2(n) => late_f2(x, n, time),
+        State::Enabling => finish(x),
+        State::Committing => finish(x),
+        State::Activating => finish(x),
+        State::Done => stay(x),
     }
 }
 
-pub(crate) fn ticked(s: TxListSync, time: u64) -> Step
-    requires { ⌜ time ≤ 18446744073709541615 ⌝ }
-    ensures { λ r. ⌜ toldStep r ≡ stepOf (ticked kind (ofSync s) time) ⌝ }
+// Whether a tick at that time does something: at or after the due time, and neither waiting for the mode nor done.
+pub(crate) fn is_due(x: Numbers, time: u64) -> bool
+    ensures { λ r. ⌜ r ≡ dueAt x time ⌝ }
 {
-    if s.held.deadline <= time {
-        let st = s.state;
-        late_at(s, st, time)
+    if time < x.totals.deadline {
+        return false;
+    }
+    let st = x.state;
+    match st {
+        State::AwaitStartup => false,
+        State::Done => false,
+        State::ReadAt => true,
+        State::Reading(_) => true,
+        State::ReadingF2(_) => true,
+        State::Enabling => true,
+        State::Committing => true,
+        State::Activating => true,
+    }
+}
+
+pub(crate) fn ticked(x: Numbers, time: u64) -> Step
+    requires { ⌜ time ≤ 18446744073709541615 ⌝ }
+    ensures { λ r. ⌜ ((a : Arrays) → toldStep r a ≡ stepOf (ticked kind (flatOf x a) time)) ⌝ }
+{
+    if x.totals.deadline <= time {
+        let st = x.state;
+        late_at(x, st, time)
     } else {
-        stay(s)
+        stay(x)
     }
 }

@@ -1,13 +1,14 @@
 // What a call sends, and how it is written into the lent output.
-use super::Called;
-use super::TxListSync;
+use super::Answered;
+use super::Numbers;
 use framing::Encoded;
 ghost use mathlib.Core.Path.{_≡_};
 ghost use Prim.Native.Nat.{_≤_};
 ghost use lib.ListN.{length};
 ghost use Rattle.field.specs.Written.{written};
 ghost use Rattle.framing.specs.Encode.{countOf};
-ghost use Rattle.session.specs.Sync.{bytesOf, toldCalled, toldStep, wroteStep};
+ghost use Rattle.session.specs.Sync.{bytesOf, wroteStep};
+ghost use Rattle.session.specs.Lent.{Arrays, toldStep, toldAnswer};
 
 // The commands of one call.
 pub enum Sent {
@@ -19,28 +20,28 @@ pub enum Sent {
     Activate,
 }
 
-// What a call does: the commands that it sends, and the session after it.
+// What a call does: the commands that it sends, and the session's numbers after it.
 pub struct Step {
     pub sent: Sent,
-    pub sync: TxListSync,
+    pub numbers: Numbers,
 }
 
-pub(crate) fn refused(number: u8, s: TxListSync) -> Called
-    ensures { λ r. ⌜ r ≡ record { number = number; count = 0; sync = s } ⌝ }
+pub(crate) fn refused(number: u8, x: Numbers) -> Answered
+    ensures { λ r. ⌜ r ≡ record { number = number; count = 0; numbers = x } ⌝ }
 {
-    Called {
+    Answered {
         number,
         count: 0,
-        sync: s,
+        numbers: x,
     }
 }
 
-pub(crate) fn stay(s: TxListSync) -> Step
-    ensures { λ r. ⌜ r ≡ record { sent = Sent.Nothing; sync = s } ⌝ }
+pub(crate) fn stay(x: Numbers) -> Step
+    ensures { λ r. ⌜ r ≡ record { sent = Sent.Nothing; numbers = x } ⌝ }
 {
     Step {
         sent: Sent::Nothing,
-        sync: s,
+        numbers: x,
     }
 }
 
@@ -65,16 +66,16 @@ fn count_of(e: Encoded) -> usize
     e.count()
 }
 
-pub(crate) fn told(step: Step, out: &mut [u8]) -> Called
+pub(crate) fn told(step: Step, out: &mut [u8]) -> Answered
     requires { ⌜ 32 ≤ length (now out) ⌝ }
-    ensures { λ r. ⌜ toldCalled r (now (out .exit)) ≡ wroteStep (toldStep step) (now (out .entry)) ⌝ }
+    ensures { λ r. ⌜ ((a : Arrays) → toldAnswer r a (now (out .exit)) ≡ wroteStep (toldStep step a) (now (out .entry))) ⌝ }
 {
     let sent = step.sent;
-    let sync = step.sync;
+    let numbers = step.numbers;
     let count = write_sent(sent, out);
-    Called {
+    Answered {
         number: 0,
         count,
-        sync,
+        numbers,
     }
 }

@@ -95,7 +95,7 @@ pub fn f1_kind(m: &[u8]) -> F1Kind
 }
 
 // Whether it is a reply 40 or 4F of 12 bytes or more.
-fn is_format2(m: &[u8]) -> bool
+pub fn is_format2(m: &[u8]) -> bool
     ensures { λ r. ⌜ r ≡ isFormat2 (now (m .entry)) ⌝ }
 {
     if m.len() < 12 {

@@ -1,0 +1,264 @@
+-- A session in lent memory: its numbers, and the arrays that stand beside them; what each function over them leaves. Assumes nothing.
+use mathlib.Core.Path.{_≡_}
+use mathlib.Core.Bool.{Bool, true, false, not, _&&_}
+use mathlib.Core.List.{List}
+use Prim.Native.Nat.{ℕ}
+use lib.Dec.{leb}
+use lib.ListN.{length}
+use Rattle.field.specs.Pick.{pick}
+use Rattle.lists.specs.declared.F2List.{F2List}
+use Rattle.lists.specs.Format2.{noParts}
+use Rattle.bounds.specs.declared.Counts.{Counts}
+use Rattle.bounds.specs.Bounds.{soundAt}
+use Rattle.views.specs.Told.{isFormat2}
+use Rattle.tx_list.specs.Views.{starts, isMode}
+use Rattle.tx_list.specs.Memory.{Flat}
+use Rattle.tx_list.specs.declared.State.{State}
+use Rattle.tx_list.specs.declared.State.the-variants.{AwaitStartup, ReadAt, ReadingF2, Reading as ReadingF1, Enabling, Committing, Activating, Done}
+use Rattle.session.specs.declared.TxListSync.{TxListSync}
+use Rattle.session.specs.declared.Totals.{Totals}
+use Rattle.session.specs.declared.Numbers.{Numbers}
+use Rattle.session.specs.declared.Answered.{Answered}
+use Rattle.session.specs.declared.Parted.{Parted}
+use Rattle.session.specs.declared.Renewed.{Renewed}
+use Rattle.session.specs.declared.Begun.{Begun}
+use Rattle.session.specs.declared.write.Step.{Step}
+use Rattle.session.specs.declared.parts.PartStep.{PartStep}
+use Rattle.session.specs.Sync.{ofSync, commandsOf, Stepped, Told}
+use Rattle.session.specs.Sound.{helm, countsOf}
+
+-- the arrays, whole
+pub record Arrays : Type 0 where
+  pub wanted : List ℕ
+  pub owed : List ℕ
+  pub fresh : List ℕ
+  pub list : List ℕ
+  pub known : List ℕ
+  pub saved : List ℕ
+  pub present : List ℕ
+  pub refused : List ℕ
+  pub f2 : F2List
+
+abbrev pub lent : List ℕ → List ℕ → List ℕ → List ℕ → List ℕ → List ℕ → List ℕ → List ℕ → F2List → Arrays
+lent wanted owed fresh list known saved present refused f2 =
+    record {
+      wanted = wanted;
+      owed = owed;
+      fresh = fresh;
+      list = list;
+      known = known;
+      saved = saved;
+      present = present;
+      refused = refused;
+      f2 = f2;
+    }
+
+-- the arrays have their lengths
+pub record Fits (a : Arrays) : Type 0 where
+  pub wanted-64 : length (a .wanted) ≡ 64
+  pub owed-64 : length (a .owed) ≡ 64
+  pub fresh-64 : length (a .fresh) ≡ 64
+  pub list-1024 : length (a .list) ≡ 1024
+  pub known-1344 : length (a .known) ≡ 1344
+  pub saved-256 : length (a .saved) ≡ 256
+  pub present-256 : length (a .present) ≡ 256
+  pub refused-256 : length (a .refused) ≡ 256
+
+-- the parts of Format 2: none where the numbers say so; the count of proprietary PGNs stands among the numbers
+abbrev pub counted : ℕ → F2List → F2List
+counted n f =
+    record {
+      supported = f .supported;
+      enabled = f .enabled;
+      proprietary = record { told = f .proprietary .told; list = record { pgns = f .proprietary .list .pgns; n = n } };
+    }
+
+abbrev pub partsOf : Totals → F2List → F2List
+partsOf t f = pick (t .blank) noParts (counted (t .counts .proprietary) f)
+
+-- THE SESSION that the numbers and the arrays hold
+abbrev pub syncOf : Numbers → Arrays → TxListSync
+syncOf x a =
+    record {
+      state = x .state;
+      held =
+          record {
+            wanted = record { pgns = a .wanted; n = x .totals .counts .wanted };
+            owed = record { pgns = a .owed; n = x .totals .counts .owed };
+            fresh = record { pgns = a .fresh; n = x .totals .counts .fresh };
+            list = record { pgns = a .list; n = x .totals .counts .list };
+            f2 = partsOf (x .totals) (a .f2);
+            known =
+                record {
+                  read = x .totals .read;
+                  complete = x .totals .complete;
+                  list = record { pgns = a .known; n = x .totals .counts .known };
+                };
+            learned =
+                record {
+                  saved = record { pgns = a .saved; n = x .totals .counts .saved };
+                  present = record { pgns = a .present; n = x .totals .counts .present };
+                  refused = record { pgns = a .refused; n = x .totals .counts .refused };
+                };
+            deadline = x .totals .deadline;
+            firmware = record { told = x .totals .told; version = x .totals .version };
+          };
+    }
+
+abbrev pub flatOf : Numbers → Arrays → Flat F2List ℕ
+flatOf x a = ofSync (syncOf x a)
+
+-- the numbers and the arrays of a session
+abbrev pub numbersOf : TxListSync → Numbers
+numbersOf s =
+    record {
+      state = s .state;
+      totals =
+          record {
+            counts = countsOf (s .held);
+            deadline = s .held .deadline;
+            read = s .held .known .read;
+            complete = s .held .known .complete;
+            told = s .held .firmware .told;
+            version = s .held .firmware .version;
+            blank = false;
+          };
+    }
+
+abbrev pub arraysOf : TxListSync → Arrays
+arraysOf s =
+    lent (s .held .wanted .pgns) (s .held .owed .pgns) (s .held .fresh .pgns) (s .held .list .pgns) (s .held .known .list .pgns)
+    (s .held .learned .saved .pgns) (s .held .learned .present .pgns) (s .held .learned .refused .pgns) (s .held .f2)
+
+-- a list of so many PGNs is known
+abbrev pub knownTotals : Totals → Bool → ℕ → Totals
+knownTotals t whole n =
+    record {
+      counts =
+          record {
+            wanted = t .counts .wanted;
+            owed = t .counts .owed;
+            fresh = t .counts .fresh;
+            list = t .counts .list;
+            proprietary = t .counts .proprietary;
+            known = n;
+            saved = t .counts .saved;
+            present = t .counts .present;
+            refused = t .counts .refused;
+          };
+      deadline = t .deadline;
+      read = true;
+      complete = whole;
+      told = t .told;
+      version = t .version;
+      blank = t .blank;
+    }
+
+-- these parts of Format 2 are in hand
+abbrev pub holding : Totals → F2List → Totals
+holding t f =
+    record {
+      counts =
+          record {
+            wanted = t .counts .wanted;
+            owed = t .counts .owed;
+            fresh = t .counts .fresh;
+            list = t .counts .list;
+            proprietary = f .proprietary .list .n;
+            known = t .counts .known;
+            saved = t .counts .saved;
+            present = t .counts .present;
+            refused = t .counts .refused;
+          };
+      deadline = t .deadline;
+      read = t .read;
+      complete = t .complete;
+      told = t .told;
+      version = t .version;
+      blank = false;
+    }
+
+-- 16, by the numbers alone: where no part is in hand no proprietary PGN is
+abbrev pub uncounted : Counts → Counts
+uncounted c =
+    record {
+      wanted = c .wanted;
+      owed = c .owed;
+      fresh = c .fresh;
+      list = c .list;
+      proprietary = 0;
+      known = c .known;
+      saved = c .saved;
+      present = c .present;
+      refused = c .refused;
+    }
+
+abbrev pub seen : Totals → Counts
+seen t = pick (t .blank) (uncounted (t .counts)) (t .counts)
+
+unfoldable pub soundFor : Numbers → Bool
+soundFor x = soundAt helm (seen (x .totals)) (x .state)
+
+-- a step's commands, and the session that it leaves in these arrays
+abbrev pub toldStep : Step → Arrays → Stepped
+toldStep r a = record { sent = commandsOf (r .sent); sync = syncOf (r .numbers) a }
+
+abbrev pub toldPart : PartStep → (F2List → Arrays) → Stepped
+toldPart r a = record { sent = commandsOf (r .sent); sync = syncOf (r .numbers) (a (r .f2)) }
+
+-- what a call leaves
+abbrev pub toldAnswer : Answered → Arrays → List ℕ → Told
+toldAnswer r a out = record { number = r .number; count = r .count; sync = syncOf (r .numbers) a; out = out }
+
+abbrev pub toldParted : Parted → (F2List → Arrays) → List ℕ → Told
+toldParted r a out = record { number = r .number; count = r .count; sync = syncOf (r .numbers) (a (r .f2)); out = out }
+
+abbrev pub toldRenewed : Renewed → Arrays → Begun
+toldRenewed r a = record { number = r .number; sync = syncOf (r .numbers) a }
+
+-- a tick at that time does something
+abbrev pub waitsIn : State → Bool
+waitsIn AwaitStartup = false
+waitsIn ReadAt = true
+waitsIn (ReadingF2 n) = true
+waitsIn (ReadingF1 n) = true
+waitsIn Enabling = true
+waitsIn Committing = true
+waitsIn Activating = true
+waitsIn Done = false
+
+unfoldable pub dueAt : Numbers → ℕ → Bool
+dueAt x t = leb (x .totals .deadline) t && waitsIn (x .state)
+
+-- a message is of interest in the phase: no other one changes anything (LentLaws)
+unfoldable pub mindsIn : State → List ℕ → Bool
+mindsIn AwaitStartup m = isMode m
+mindsIn ReadAt m = false
+mindsIn (ReadingF2 n) m = isFormat2 m
+mindsIn (ReadingF1 n) m = starts 0x49 m
+mindsIn Enabling m = starts 0x47 m
+mindsIn Committing m = starts 0x01 m
+mindsIn Activating m = starts 0x4B m
+mindsIn Done m = false
+
+-- a tick, a message is taken and does nothing
+unfoldable pub idleAt : Numbers → ℕ → ℕ → Bool
+idleAt x t room = soundFor x && (leb t 18446744073709541615 && (leb 32 room && not (dueAt x t)))
+
+unfoldable pub ignoredAt : Numbers → ℕ → List ℕ → ℕ → Bool
+ignoredAt x t m room =
+    soundFor x && (leb t 18446744073709541615 && (leb (length m) 255 && (leb 32 room && not (mindsIn (x .state) m))))
+
+-- a message while Format 2 is read is for `part`, any other for `message`: the other one answers 100 and does nothing
+abbrev pub readsF2 : State → Bool
+readsF2 AwaitStartup = false
+readsF2 ReadAt = false
+readsF2 (ReadingF2 n) = true
+readsF2 (ReadingF1 n) = false
+readsF2 Enabling = false
+readsF2 Committing = false
+readsF2 Activating = false
+readsF2 Done = false
+
+abbrev pub notHere : Numbers → Arrays → List ℕ → Told
+notHere x a out = record { number = 100; count = 0; sync = syncOf x a; out = out }
