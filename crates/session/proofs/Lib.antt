@@ -4,3 +4,4 @@ pub mod StartUp
 pub mod Tilt
 pub mod CallLaws
 pub mod HeardLaws
+pub mod LentCalls
