@@ -10,3 +10,4 @@ pub mod AnswersLaws
 pub mod WriteLaws
 pub mod OpeningLaws
 pub mod ReadingLaws
+pub mod LentReading

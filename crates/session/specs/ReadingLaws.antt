@@ -72,7 +72,14 @@ unfolding noted
 noted-told l n ps m e h =
     e ∙ ap (λ (t : Bool). pick t (fill (told n l) (notes (take n l) (take m ps))) (told n l)) (le-leb (n + m) (length l) h)
 
+sets-none : (dst o : List ℕ) → length o ≡ 0 → sets dst 0 o ≡ dst
+sets-none dst [] e = sets-written [] dst (omega arith)
+sets-none dst (x ∷ xs) e = absurd (omega arith)
+
 -- what is written at the front is read there
+pub front-read : (o dst : List ℕ) → length o ≤ length dst → take (length o) (sets dst 0 o) ≡ o
+front-read o dst h = ap (take (length o)) (sets-written o dst h) ∙ take-append-seam o (drop (length o) dst)
+
 sets-front : (o dst : List ℕ) → 0 < length o → length o ≤ length dst → getD (sets dst 0 o) 0 0 ≡ getD o 0 0
 sets-front [] dst z h = absurd (omega arith)
 sets-front (x ∷ xs) dst z h = ap (λ (l : List ℕ). getD l 0 0) (sets-written (x ∷ xs) dst h)
@@ -125,6 +132,12 @@ module _ (s : TxListSync) (kn : Known) (l : List ℕ) (t : ℕ) (b : Buf ℕ) (e
   pub list-none : b .n ≡ 0 → _≡_ {A = Stepped} (record { sent = []; sync = toSync (goTo (known′ s kn) Done (t + 10000)) }) (asked s kn l t)
   list-none z =
       ap stepOf (sym (asks-none (known′ s kn) (owedBy s l) t (sym (ap (λ (x : Buf ℕ). x .n) written-owed) ∙ z))) ∙ asked-owed
+
+  -- and nothing was written
+  pub none-written : b .n ≡ 0 → b .items ≡ s .held .owed .pgns
+  none-written z =
+      ap (λ (x : Buf ℕ). x .items) written-owed
+      ∙ sets-none (s .held .owed .pgns) (owedBy s l) (sym (ap (λ (x : Buf ℕ). x .n) written-owed) ∙ z)
 
   pub list-some : 0 < b .n
       → _≡_ {A = Stepped}
@@ -181,7 +194,7 @@ module _ (s : TxListSync) (l : List ℕ) (complete : Bool) (t : ℕ) (room : len
   short = omega (arith, length-take (s .held .learned .present .n) (s .held .learned .present .pgns))
 
   front : take (length l) (sets items 0 l) ≡ l
-  front = ap (take (length l)) (sets-written l items (omega arith)) ∙ take-append-seam l (drop (length l) items)
+  front = front-read l items (omega arith)
 
   abbrev kept : Known
   kept = knownAs (sets items 0 l) (length l) (s .held .learned .present) complete
@@ -311,31 +324,25 @@ module _ (s : TxListSync) (p : F2List) (t : ℕ) (a : List ℕ) {f : F2Read} (e 
   heard-as v q =
       ap (λ (x : F2Read). toldRead x a) (sym q) ∙ e ∙ listed-told p (s .held .known .list .pgns) g (omega arith)
 
-  pub part-room : (n : ℕ) → f ≡ Whole n → s .held .learned .present .n ≤ 256 → n + s .held .learned .present .n ≤ 1344
-  part-room n q h =
-      let w = told-whole (pgnsOf p) n a (s .held .known .list .pgns) (heard-as (Whole n) q) in
-      let b : length (w .0) ≤ 767 = pgns-767 p (w .0) g (w .1) in
-      omega arith
-
-  pub part-whole : (n : ℕ) (kn : Known) {r : Stepped}
-      → f ≡ Whole n
-      → s .held .learned .present .n ≤ 256
-      → kn ≡ knownAs a n (s .held .learned .present) true
-      → r ≡ asked s kn (take n (kn .list .pgns)) t
-      → r ≡ stepOf (inWhole kind (pgnsOf p) (ofSync s) p t)
+  -- a whole list of n PGNs: where it stands, how many there can be, and what it does
+  pub part-whole : (n : ℕ) → f ≡ Whole n
+      → (a ≡ sets (s .held .known .list .pgns) 0 (take n a)) × (n ≤ 767) × (stepOf (gets kind (ofSync s) (take n a) true t) ≡ stepOf (inWhole kind (pgnsOf p) (ofSync s) p t))
   unfolding inWhole
-  part-whole n kn q h k c =
+  part-whole n q =
       let w = told-whole (pgnsOf p) n a (s .held .known .list .pgns) (heard-as (Whole n) q) in
       let b : length (w .0) ≤ 767 = pgns-767 p (w .0) g (w .1) in
       let x : a ≡ sets (s .held .known .list .pgns) 0 (w .0) = w .3 ∙ sym (sets-written (w .0) (s .held .known .list .pgns) (omega arith)) in
-      got s (w .0) true t (omega arith) a n kn x (w .2) k c
-      ∙ ap (λ (o : Option (List ℕ)). stepOf (inWhole kind o (ofSync s) p t)) (sym (w .1))
+      let l : take n a ≡ w .0 = (λ i. take (w .2 i) (x i)) ∙ front-read (w .0) (s .held .known .list .pgns) (omega arith) in (
+        x ∙ ap (sets (s .held .known .list .pgns) 0) (sym l),
+        omega (arith, w .2),
+        ap (λ (y : List ℕ). stepOf (gets kind (ofSync s) y true t)) l ∙ ap (λ (o : Option (List ℕ)). stepOf (inWhole kind o (ofSync s) p t)) (sym (w .1)),
+      )
 
-  pub part-partial : f ≡ Partial → stepOf (puts kind (ofSync s) p t) ≡ stepOf (inWhole kind (pgnsOf p) (ofSync s) p t)
+  pub part-partial : f ≡ Partial → (a ≡ s .held .known .list .pgns) × (stepOf (puts kind (ofSync s) p t) ≡ stepOf (inWhole kind (pgnsOf p) (ofSync s) p t))
   unfolding inWhole
   part-partial q =
       let w = told-partial (pgnsOf p) a (s .held .known .list .pgns) (heard-as Partial q) in
-      ap (λ (o : Option (List ℕ)). stepOf (inWhole kind o (ofSync s) p t)) (sym (w .0))
+      (w .1, ap (λ (o : Option (List ℕ)). stepOf (inWhole kind o (ofSync s) p t)) (sym (w .0)))
 
   pub part-refused : (number : ℕ) → f ≡ Refused number → ⊥
   part-refused number q = told-refused (pgnsOf p) number a (s .held .known .list .pgns) (heard-as (Refused number) q)

@@ -1,12 +1,13 @@
+-- `session::parts::on_f2` meets its contract. Assumes nothing.
+use mathlib.Core.Path.{ap, _∙_}
 use borrow.Author.Needs.{needs}
+use Rattle.views.specs.declared.F2Kind.the-variants.{Wrong, Part, Alien}
+use Rattle.tx_list.specs.Moves.{inF2}
+use Rattle.session.specs.declared.parts.PartStep.{PartStep}
+use Rattle.session.specs.Lent.{lent, flatOf, toldPart}
+use Rattle.session.specs.ReadingLaws.{in-f2}
 use Rattle.session.proofs.parts.on_f2.Statement.{statement}
 use Rattle.session.proofs.parts.on_f2.Tie as tie
-use Rattle.session.proofs.parts.on_f2.Reads as reads
-use Rattle.session.proofs.parts.on_f2.Lts as lts
-use Rattle.session.proofs.parts.on_part.Reads as on-part-reads
-use Rattle.session.proofs.parts.with_parts.Reads as with-parts-reads
-use Rattle.session.proofs.ticks.start_f1.Reads as start-f1-reads
-use Rattle.views.proofs.f2_kind.Reads as f2-kind-reads
 
 f2-kind-requires : tie.Need-f2-kind-requires
 f2-kind-requires c κs = search needs
@@ -30,13 +31,33 @@ enum-told-3 : tie.Need-enum-told-3
 enum-told-3 c = search needs
 
 returns : tie.Need-returns
-returns c = search needs
+unfolding inF2
+returns c =
+    let e = c .before .before in
+    let k = e .before .before in
+    let a = k .before .before .args in
+    λ u l s.
+    ap (λ (p : PartStep). toldPart p (lent (a .wanted .now) (a .owed .now) u l (a .known .now) s (a .present .now) (a .refused .now))) (c .with-parts .ensures)
+    ∙ c .before .start-f1 .ensures (lent (a .wanted .now) (a .owed .now) u l (a .known .now) s (a .present .now) (a .refused .now) (a .f2))
+    ∙ in-f2 (a .payload .now) Wrong (flatOf (a .x) (lent (a .wanted .now) (a .owed .now) u l (a .known .now) s (a .present .now) (a .refused .now) (a .f2))) (a .time) (k .f2-kind .ensures) (e .enum-told .given .1)
 
 returns-2 : tie.Need-returns-2
-returns-2 c = search needs
+unfolding inF2
+returns-2 c =
+    let e = c .before .before .before .before .before .before in
+    let k = e .before .before in
+    let a = k .before .before .args in
+    λ u l s.
+    c .on-part .ensures u l s
+    ∙ in-f2 (a .payload .now) Part (flatOf (a .x) (lent (a .wanted .now) (a .owed .now) u l (a .known .now) s (a .present .now) (a .refused .now) (a .f2))) (a .time) (k .f2-kind .ensures) (e .enum-told2 .given .1)
 
 returns-3 : tie.Need-returns-3
-returns-3 c = search needs
+unfolding inF2
+returns-3 c =
+    let k = c .before .before in
+    let a = k .before .before .args in
+    λ u l s.
+    in-f2 (a .payload .now) Alien (flatOf (a .x) (lent (a .wanted .now) (a .owed .now) u l (a .known .now) s (a .present .now) (a .refused .now) (a .f2))) (a .time) (k .f2-kind .ensures) (c .enum-told3 .given .1)
 
 pub on-f2-spec : {M : Type 1} → statement M
 on-f2-spec =

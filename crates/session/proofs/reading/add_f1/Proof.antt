@@ -1,11 +1,11 @@
+-- `session::reading::add_f1` meets its contract. Assumes nothing.
+use Prim.Native.Nat.{_+_, _≤_}
+use native.Mathlib.Omega.{arith}
 use borrow.Author.Needs.{needs}
+use Rattle.views.specs.ViewsLaws.{listPgns-length}
+use Rattle.session.specs.LentReading.{adds-in}
 use Rattle.session.proofs.reading.add_f1.Statement.{statement}
 use Rattle.session.proofs.reading.add_f1.Tie as tie
-use Rattle.session.proofs.reading.add_f1.Reads as reads
-use Rattle.session.proofs.reading.add_f1.Lts as lts
-use Rattle.pgns.proofs.add_pgns.Reads as add-pgns-reads
-use Rattle.session.proofs.answers.await_answer.Reads as await-answer-reads
-use Rattle.views.proofs.group_count.Reads as group-count-reads
 
 group-count-requires : tie.Need-group-count-requires
 group-count-requires c κs = search needs
@@ -14,13 +14,22 @@ add-pgns-requires : tie.Need-add-pgns-requires
 add-pgns-requires c κs = search needs
 
 add-end : tie.Need-add-end
-add-end c = search needs
+add-end c =
+    let g = c .before .before in
+    let b = g .before .before .before in
+    let h : b .args .x .totals .counts .list + g .group-count .result ≤ 1024 = omega (arith, b .pre .1, listPgns-length (b .args .payload .now), g .group-count .ensures) in
+    search needs
 
 await-answer-requires : tie.Need-await-answer-requires
 await-answer-requires c κs = search needs
 
 returns : tie.Need-returns
-returns c = search needs
+returns c =
+    let p = c .before .before in
+    let g = p .before .before in
+    let b = g .before .before .before in
+    adds-in (b .args .x) (b .args .payload .now) (b .args .time) (g .group-count .result) (b .args .list .now) (p .add-pgns .last .0) (g .group-count .ensures)
+    (p .add-pgns .ensures) (c .await-answer .ensures)
 
 pub add-f1-spec : {M : Type 1} → statement M
 add-f1-spec =

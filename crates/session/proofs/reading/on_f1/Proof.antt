@@ -1,12 +1,13 @@
+-- `session::reading::on_f1` meets its contract. Assumes nothing.
+use mathlib.Core.Path.{ap, _∙_}
 use borrow.Author.Needs.{needs}
+use Rattle.views.specs.declared.F1Kind.the-variants.{Adds, Ends, Neither}
+use Rattle.tx_list.specs.Moves.{inF1}
+use Rattle.session.specs.declared.write.Step.{Step}
+use Rattle.session.specs.Lent.{lent, flatOf, toldStep}
+use Rattle.session.specs.ReadingLaws.{adds-fit, in-f1}
 use Rattle.session.proofs.reading.on_f1.Statement.{statement}
 use Rattle.session.proofs.reading.on_f1.Tie as tie
-use Rattle.session.proofs.reading.on_f1.Reads as reads
-use Rattle.session.proofs.reading.on_f1.Lts as lts
-use Rattle.session.proofs.reading.add_f1.Reads as add-f1-reads
-use Rattle.session.proofs.reading.end_f1.Reads as end-f1-reads
-use Rattle.session.proofs.write.stay.Reads as stay-reads
-use Rattle.views.proofs.f1_kind.Reads as f1-kind-reads
 
 f1-kind-requires : tie.Need-f1-kind-requires
 f1-kind-requires c κs = search needs
@@ -15,7 +16,13 @@ enum-told : tie.Need-enum-told
 enum-told c = search needs
 
 add-f1-requires : tie.Need-add-f1-requires
-add-f1-requires c κs = search needs
+add-f1-requires c κs =
+    let e = c .before in
+    let k = e .before .before in
+    let b = k .before .before in (
+      b .pre .0 .0,
+      adds-fit (b .args .payload .now) (k .f1-kind .ensures) (b .args .x .totals .counts .list) (e .enum-told .given .1) (b .pre .1),
+    )
 
 enum-told-2 : tie.Need-enum-told-2
 enum-told-2 c = search needs
@@ -30,13 +37,34 @@ stay-requires : tie.Need-stay-requires
 stay-requires c κs = search needs
 
 returns : tie.Need-returns
-returns c = search needs
+unfolding inF1
+returns c =
+    let e = c .before .before in
+    let k = e .before .before in
+    let a = k .before .before .args in
+    λ u s f.
+    c .add-f1 .ensures (a .wanted .now) (a .owed .now) u (a .known .now) s (a .present .now) (a .refused .now) f
+    ∙ in-f1 (a .payload .now) (k .f1-kind .ensures) Adds (flatOf (a .x) (lent (a .wanted .now) (a .owed .now) u (a .list .now) (a .known .now) s (a .present .now) (a .refused .now) f)) (a .time) (e .enum-told .given .1)
 
 returns-2 : tie.Need-returns-2
-returns-2 c = search needs
+unfolding inF1
+returns-2 c =
+    let e = c .before .before .before .before .before .before .before in
+    let k = e .before .before in
+    let a = k .before .before .args in
+    λ u s f.
+    c .end-f1 .ensures u s f
+    ∙ in-f1 (a .payload .now) (k .f1-kind .ensures) Ends (flatOf (a .x) (lent (a .wanted .now) (a .owed .now) u (a .list .now) (a .known .now) s (a .present .now) (a .refused .now) f)) (a .time) (e .enum-told2 .given .1)
 
 returns-3 : tie.Need-returns-3
-returns-3 c = search needs
+unfolding inF1
+returns-3 c =
+    let e = c .before in
+    let k = e .before .before in
+    let a = k .before .before .args in
+    λ u s f.
+    ap (λ (q : Step). toldStep q (lent (a .wanted .now) (a .owed .now) u (a .list .now) (a .known .now) s (a .present .now) (a .refused .now) f)) (c .stay .ensures)
+    ∙ in-f1 (a .payload .now) (k .f1-kind .ensures) Neither (flatOf (a .x) (lent (a .wanted .now) (a .owed .now) u (a .list .now) (a .known .now) s (a .present .now) (a .refused .now) f)) (a .time) (e .enum-told3 .given .1)
 
 pub on-f1-spec : {M : Type 1} → statement M
 on-f1-spec =

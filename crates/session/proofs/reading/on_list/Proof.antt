@@ -1,10 +1,12 @@
+-- `session::reading::on_list` meets its contract. Assumes nothing.
+use Prim.Native.Nat.{_≤_, _<_}
+use native.Mathlib.Omega.{arith}
+use mathlib.Core.Path.{_≡_}
 use borrow.Author.Needs.{needs}
+use lib.ListN.{length}
+use Rattle.session.specs.LentReading.{none-in, some-in}
 use Rattle.session.proofs.reading.on_list.Statement.{statement}
 use Rattle.session.proofs.reading.on_list.Tie as tie
-use Rattle.session.proofs.reading.on_list.Reads as reads
-use Rattle.session.proofs.reading.on_list.Lts as lts
-use Rattle.pgns.proofs.owed_into.Reads as owed-into-reads
-use Rattle.session.proofs.answers.await_answer.Reads as await-answer-reads
 
 owed-into-requires : tie.Need-owed-into-requires
 owed-into-requires c κs = search needs
@@ -12,8 +14,19 @@ owed-into-requires c κs = search needs
 await-answer-requires : tie.Need-await-answer-requires
 await-answer-requires c κs = search needs
 
+room : (c : tie.After-owed-into-arg) → c .before .before .before .args .x .totals .counts .wanted ≤ length (c .before .before .before .args .owed .now)
+room c =
+    let g : length (c .before .before .before .args .owed .now) ≡ 64 = let q = c .owed-into-arg .given in search needs in
+    omega (arith, g, c .before .before .before .pre .1)
+
 returns : tie.Need-returns
-returns c = search needs
+returns c =
+    let o = c .before .before in
+    let g = o .before .before .before .before .before .before .before .before .before in
+    let b = g .before .before .before in
+    let a = b .args in
+    none-in (a .x) (a .n) (a .time) (a .wanted .now) (a .owed .now) (o .owed-into .last .0) (a .known .now) (a .present .now) (a .refused .now) (o .owed-into .result) (o .owed-into .ensures)
+    (room g) (c .before .if1 .taken) (c .await-answer .ensures)
 
 element-copy-out-first : tie.Need-element-copy-out-first
 element-copy-out-first c = search needs
@@ -22,7 +35,15 @@ await-answer-requires-2 : tie.Need-await-answer-requires-2
 await-answer-requires-2 c κs = search needs
 
 returns-2 : tie.Need-returns-2
-returns-2 c = search needs
+returns-2 c =
+    let i = c .before .before .before .before in
+    let o = i .before in
+    let g = o .before .before .before .before .before .before .before .before .before in
+    let b = g .before .before .before in
+    let a = b .args in
+    let z : 0 < o .owed-into .result = omega (arith, i .if1 .left) in
+    some-in (a .x) (a .n) (a .time) (a .wanted .now) (a .owed .now) (o .owed-into .last .0) (a .known .now) (a .present .now) (a .refused .now) (o .owed-into .result) (o .owed-into .ensures)
+    (room g) z (c .await-answer2 .ensures)
 
 pub on-list-spec : {M : Type 1} → statement M
 on-list-spec =

@@ -1,10 +1,12 @@
+-- `session::reading::on_mode` meets its contract. Assumes nothing.
+use mathlib.Core.Path.{ap, _∙_}
+use mathlib.Core.Bool.{true, false}
 use borrow.Author.Needs.{needs}
+use Rattle.session.specs.declared.write.Step.{Step}
+use Rattle.session.specs.Lent.{syncOf, toldStep}
+use Rattle.session.specs.ReadingLaws.{mode-by}
 use Rattle.session.proofs.reading.on_mode.Statement.{statement}
 use Rattle.session.proofs.reading.on_mode.Tie as tie
-use Rattle.session.proofs.reading.on_mode.Reads as reads
-use Rattle.session.proofs.reading.on_mode.Lts as lts
-use Rattle.session.proofs.write.stay.Reads as stay-reads
-use Rattle.views.proofs.is_mode.Reads as is-mode-reads
 
 is-mode-requires : tie.Need-is-mode-requires
 is-mode-requires c κs = search needs
@@ -16,10 +18,16 @@ stay-requires : tie.Need-stay-requires
 stay-requires c κs = search needs
 
 returns : tie.Need-returns
-returns c = search needs
+returns c =
+    let b = c .before .before .before .before .args in
+    λ a. mode-by (syncOf (b .x) a) (b .payload .now) (b .time) true (c .before .before .is-mode .ensures) (c .before .if1 .taken)
 
 returns-2 : tie.Need-returns-2
-returns-2 c = search needs
+returns-2 c =
+    let b = c .before .before .before .before .args in
+    λ a.
+    ap (λ (q : Step). toldStep q a) (c .stay .ensures)
+    ∙ mode-by (syncOf (b .x) a) (b .payload .now) (b .time) false (c .before .before .is-mode .ensures) (c .before .if1 .left)
 
 pub on-mode-spec : {M : Type 1} → statement M
 on-mode-spec = tie.close (tie.spec is-mode-requires add-t stay-requires returns returns-2)
