@@ -8,10 +8,11 @@ use borrow.Author.Tests.{ltb-true}
 use Rattle.lists.specs.declared.F2List.{F2List}
 use Rattle.lists.specs.Format2.{formed}
 use Rattle.tx_list.specs.declared.State.{State}
-use Rattle.tx_list.specs.declared.State.the-variants.{ReadAt, ReadingF2, Reading as ReadingF1, Enabling, Committing, Activating, Done}
+use Rattle.tx_list.specs.declared.State.the-variants.{AwaitStartup, ReadAt, ReadingF2, Reading as ReadingF1, Enabling, Committing, Activating, Done}
 use Rattle.tx_list.specs.Views.{f1Of, f2Of}
 use Rattle.tx_list.specs.Session.{allLe, AllLe, knownMax}
-use Rattle.tx_list.specs.Memory.{counts}
+use Rattle.tx_list.specs.Memory.{Flat, counts}
+use Rattle.tx_list.proofs.LiveLists.{false-true}
 use Rattle.tx_list.specs.Moves.{formatIn, owesIn, sumsIn, soundIn, fullIn, inF1, inF2, heard}
 use Rattle.field.specs.Tests.{left-true}
 use Rattle.tx_list.proofs.MovesSound.{sound-counts, sound-owes, sound-sums}
@@ -20,7 +21,7 @@ use Rattle.session.specs.declared.write.Step.{Step}
 use Rattle.session.specs.declared.write.Sent.the-variants.{Nothing}
 use Rattle.session.specs.declared.Numbers.{Numbers}
 use Rattle.session.specs.Sync.{kind, ofSync, overList, Stepped, stepOf}
-use Rattle.session.specs.Lent.{Arrays, flatOf, toldStep}
+use Rattle.session.specs.Lent.{Arrays, flatOf, toldStep, readsF2}
 
 module _ (s : TxListSync) (e : soundIn kind (ofSync s) ≡ true) where
   pub within : AllLe (counts kind (ofSync s))
@@ -81,6 +82,24 @@ pub hears-f1 : (s : TxListSync) (t : ℕ) (m : List ℕ) (n : ℕ) {r : Stepped}
 unfolding heard
 hears-f1 s t m n e = e
 
-pub hears-f2 : (s : TxListSync) (t : ℕ) (m : List ℕ) (n : ℕ) {r : Stepped} → r ≡ stepOf (inF2 kind (f2Of m) (ofSync s) t m) → r ≡ stepOf (heard kind (ReadingF2 n) (ofSync s) t m)
+-- a message while Format 2 is read: 14 cannot be, and what it does
+pub never-full : (st : State) (h : Flat F2List ℕ) (m : List ℕ) → readsF2 st ≡ true → fullIn kind st h m ≡ false
+never-full AwaitStartup h m e = refl
+never-full ReadAt h m e = refl
+never-full (ReadingF2 n) h m e = refl
+never-full (ReadingF1 n) h m e = false-true e
+never-full Enabling h m e = refl
+never-full Committing h m e = refl
+never-full Activating h m e = refl
+never-full Done h m e = refl
+
+pub hears-part : (st : State) (h : Flat F2List ℕ) (t : ℕ) (m : List ℕ) → readsF2 st ≡ true → inF2 kind (f2Of m) h t m ≡ heard kind st h t m
 unfolding heard
-hears-f2 s t m n e = e
+hears-part AwaitStartup h t m e = false-true e
+hears-part ReadAt h t m e = false-true e
+hears-part (ReadingF2 n) h t m e = refl
+hears-part (ReadingF1 n) h t m e = false-true e
+hears-part Enabling h t m e = false-true e
+hears-part Committing h t m e = false-true e
+hears-part Activating h t m e = false-true e
+hears-part Done h t m e = false-true e

@@ -22,7 +22,7 @@ ghost use lib.ListN.{length};
 ghost use Rattle.tx_list.specs.Reading as model;
 ghost use Rattle.session.specs.Sound.{countsOf};
 ghost use Rattle.session.specs.Sync.{toldCalled, called};
-ghost use Rattle.session.specs.Lent.{lent, partsOf, syncOf, numbersOf, arraysOf, readsF2};
+ghost use Rattle.session.specs.Lent.{Fits, lent, syncOf, numbersOf, arraysOf, readsF2};
 
 fn counts_of(h: Held) -> Counts
     ensures { λ r. ⌜ r ≡ countsOf h ⌝ }
@@ -40,8 +40,10 @@ fn counts_of(h: Held) -> Counts
     }
 }
 
+// A session's numbers. Its arrays have their lengths, as those of every session.
 pub(crate) fn numbers_of(s: TxListSync) -> Numbers
     ensures { λ r. ⌜ r ≡ numbersOf s ⌝ }
+    ensures { λ r. ⌜ Fits (arraysOf s) ⌝ }
 {
     let counts = counts_of(s.held);
     let totals = Totals {

@@ -1,13 +1,39 @@
+-- `session::Numbers::part` meets its contract. Assumes nothing.
+use native.Mathlib.Omega.{arith}
+use mathlib.Core.Path.{_≡_, sym, ap, _∙_}
+use mathlib.Core.Bool.{true, false, not}
+use mathlib.Core.List.{List, []}
+use Prim.Native.Nat.{ℕ}
 use borrow.Author.Needs.{needs}
+use borrow.Author.Tests.{not-true, not-false}
+use lib.ListN.{length}
+use Rattle.lists.specs.declared.F2List.{F2List}
+use Rattle.lists.specs.Format2.{noParts}
+use Rattle.tx_list.specs.Reading.{Verdict, taken, refuse}
+use Rattle.tx_list.specs.Moves.{Moved}
+use Rattle.session.specs.declared.Parted.{Parted}
+use Rattle.session.specs.Sync.{Stepped, stepOf, wroteStep}
+use Rattle.session.specs.Lent.{Arrays, lent, syncOf, flatOf, toldParted, readsF2}
+use Rattle.session.specs.LentLaws.{sized, chosen, other}
+use Rattle.session.proofs.HeardLaws.{within, parts-formed, never-full, hears-part}
+use Rattle.session.proofs.CallLaws.{message-by, unsound, judged, message-far, message-long, message-small, message-taken}
+use Rattle.session.proofs.LentCalls.{sound-no, sound-yes}
 use Rattle.session.proofs.Numbers.part.Statement.{statement}
 use Rattle.session.proofs.Numbers.part.Tie as tie
-use Rattle.session.proofs.Numbers.part.Reads as reads
-use Rattle.session.proofs.Numbers.part.Lts as lts
-use Rattle.session.proofs.parts.on_f2.Reads as on-f2-reads
-use Rattle.session.proofs.parts.reads_f2.Reads as reads-f2-reads
-use Rattle.session.proofs.parts.refused_part.Reads as refused-part-reads
-use Rattle.session.proofs.parts.told_part.Reads as told-part-reads
-use Rattle.session.proofs.sound.is_sound.Reads as is-sound-reads
+
+-- the arrays at the start
+abbrev arrays : tie.Start → List ℕ → List ℕ → List ℕ → F2List → Arrays
+arrays b u l s f =
+    lent (b .args .wanted .now) (b .args .owed .now) u l (b .args .known .now) s (b .args .present .now) (b .args .refused .now) f
+
+-- and after the message
+abbrev after : tie.After-on-f2 → List ℕ → List ℕ → List ℕ → F2List → Arrays
+after c u l s f =
+    lent (c .on-f2 .last .1 .1 .0) (c .on-f2 .last .1 .1 .1 .0) u l (c .on-f2 .last .1 .1 .1 .1 .0) s (c .on-f2 .last .1 .1 .1 .1 .1 .0) (c .on-f2 .last .1 .1 .1 .1 .1 .1 .0) f
+
+-- Format 2 is being read
+here : (c : tie.Else1) → readsF2 (c .before .before .before .before .args .self .state) ≡ true
+here c = sym (c .before .reads-f2 .ensures) ∙ not-false _ (c .if1 .left)
 
 reads-f2-requires : tie.Need-reads-f2-requires
 reads-f2-requires c κs = search needs
@@ -16,7 +42,12 @@ refused-part-requires : tie.Need-refused-part-requires
 refused-part-requires c κs = search needs
 
 returns : tie.Need-returns
-returns c = search needs
+returns c =
+    let k = c .before .before in
+    let b = k .before .before .before in
+    let o = b .args .out .now in
+    λ u l s z.
+    ap (λ (r : Parted). toldParted r (arrays b u l s) o) (c .refused-part .ensures) ∙ other _ _ (sym (k .reads-f2 .ensures) ∙ not-true _ (c .before .if1 .taken))
 
 is-sound-requires : tie.Need-is-sound-requires
 is-sound-requires c κs = search needs
@@ -25,28 +56,71 @@ refused-part-requires-2 : tie.Need-refused-part-requires-2
 refused-part-requires-2 c κs = search needs
 
 returns-2 : tie.Need-returns-2
-returns-2 c = search needs
+returns-2 c =
+    let i = c .before .before in
+    let b = i .before .before .before .before .before in
+    let a = b .args in
+    let o = a .out .now in
+    λ u l s z.
+    let A = arrays b u l s (a .f2) in
+    ap (λ (r : Parted). toldParted r (arrays b u l s) o) (c .refused-part2 .ensures)
+    ∙ message-by (syncOf (a .self) A) (a .time) (a .payload .now) (length o) o (refuse 16) (sized (a .self) A z) (unsound _ _ (sound-no (a .self) A (i .is-sound .ensures) (c .before .if2 .taken)))
+    ∙ chosen _ _ (here (i .before))
 
 refused-part-requires-3 : tie.Need-refused-part-requires-3
 refused-part-requires-3 c κs = search needs
 
 returns-3 : tie.Need-returns-3
-returns-3 c = search needs
+returns-3 c =
+    let i = c .before .before .before in
+    let b = i .before .before .before .before .before in
+    let a = b .args in
+    let o = a .out .now in
+    λ u l s z.
+    let A = arrays b u l s (a .f2) in
+    ap (λ (r : Parted). toldParted r (arrays b u l s) o) (c .refused-part3 .ensures)
+    ∙ message-by (syncOf (a .self) A) (a .time) (a .payload .now) (length o) o (refuse 13) (sized (a .self) A z) (judged _ _ (sound-yes (a .self) A (i .is-sound .ensures) (c .before .before .if2 .left)) ∙ message-far (a .time) (a .payload .now) (length o) _ (c .before .if3 .taken))
+    ∙ chosen _ _ (here (i .before))
 
 refused-part-requires-4 : tie.Need-refused-part-requires-4
 refused-part-requires-4 c κs = search needs
 
 returns-4 : tie.Need-returns-4
-returns-4 c = search needs
+returns-4 c =
+    let i = c .before .before .before .before in
+    let b = i .before .before .before .before .before in
+    let a = b .args in
+    let o = a .out .now in
+    λ u l s z.
+    let A = arrays b u l s (a .f2) in
+    ap (λ (r : Parted). toldParted r (arrays b u l s) o) (c .refused-part4 .ensures)
+    ∙ message-by (syncOf (a .self) A) (a .time) (a .payload .now) (length o) o (refuse 6) (sized (a .self) A z) (judged _ _ (sound-yes (a .self) A (i .is-sound .ensures) (c .before .before .before .if2 .left)) ∙ message-long (a .time) (a .payload .now) (length o) _ (c .before .before .if3 .left) (c .before .if4 .taken))
+    ∙ chosen _ _ (here (i .before))
 
 refused-part-requires-5 : tie.Need-refused-part-requires-5
 refused-part-requires-5 c κs = search needs
 
 returns-5 : tie.Need-returns-5
-returns-5 c = search needs
+returns-5 c =
+    let i = c .before .before .before .before .before in
+    let b = i .before .before .before .before .before in
+    let a = b .args in
+    let o = a .out .now in
+    λ u l s z.
+    let A = arrays b u l s (a .f2) in
+    ap (λ (r : Parted). toldParted r (arrays b u l s) o) (c .refused-part5 .ensures)
+    ∙ message-by (syncOf (a .self) A) (a .time) (a .payload .now) (length o) o (refuse 7) (sized (a .self) A z) (judged _ _ (sound-yes (a .self) A (i .is-sound .ensures) (c .before .before .before .before .if2 .left)) ∙ message-small (a .time) (a .payload .now) (length o) _ (c .before .before .before .if3 .left) (c .before .before .if4 .left) (c .before .if5 .taken))
+    ∙ chosen _ _ (here (i .before))
 
 on-f2-requires : tie.Need-on-f2-requires
-on-f2-requires c κs = search needs
+on-f2-requires c κs =
+    let e = c .before .before .before .before .before in
+    let i = e .before .before .before .before in
+    let b = i .before .before .before .before .before in
+    let A = arrays b [] [] [] (b .args .f2) in
+    let y = sound-yes (b .args .self) A (i .is-sound .ensures) (e .before .before .before .if2 .left) in
+    let w = within (syncOf (b .args .self) A) y in
+    (e .before .before .if3 .left, omega arith, omega arith, parts-formed (syncOf (b .args .self) A) y)
 
 told-part-requires : tie.Need-told-part-requires
 told-part-requires c κs = search needs
@@ -55,7 +129,22 @@ same-length : tie.Need-same-length
 same-length c = search needs
 
 returns-6 : tie.Need-returns-6
-returns-6 c = search needs
+returns-6 c =
+    let t = c .before .before in
+    let h = t .before .before in
+    let e = h .before .before .before .before .before .before in
+    let i = e .before .before .before .before in
+    let b = i .before .before .before .before .before in
+    let a = b .args in
+    let o = a .out .now in
+    λ u l s z.
+    let A = arrays b u l s (a .f2) in
+    t .told-part .ensures (after h u l s)
+    ∙ ap (λ (x : Stepped). wroteStep x o) (h .on-f2 .ensures u l s ∙ ap stepOf (hears-part (a .self .state) (flatOf (a .self) A) (a .time) (a .payload .now) (here (i .before))))
+    ∙ message-by (syncOf (a .self) A) (a .time) (a .payload .now) (length o) o taken (sized (a .self) A z)
+    (judged _ _ (sound-yes (a .self) A (i .is-sound .ensures) (e .before .before .before .if2 .left))
+    ∙ message-taken (a .time) (a .payload .now) (length o) _ (e .before .before .if3 .left) (e .before .if4 .left) (e .if5 .left) (never-full (a .self .state) (flatOf (a .self) A) (a .payload .now) (here (i .before))))
+    ∙ chosen _ _ (here (i .before))
 
 pub part-spec : {M : Type 1} → statement M
 part-spec =

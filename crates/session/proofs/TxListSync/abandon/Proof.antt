@@ -1,0 +1,28 @@
+-- `session::TxListSync::abandon` meets its contract. Assumes nothing.
+use mathlib.Core.Path.{ap, _∙_}
+use borrow.Author.Needs.{needs}
+use Rattle.session.specs.declared.Numbers.{Numbers}
+use Rattle.session.specs.Sync.{abandoned}
+use Rattle.session.specs.Lent.{syncOf, arraysOf}
+use Rattle.session.proofs.TxListSync.abandon.Statement.{statement}
+use Rattle.session.proofs.TxListSync.abandon.Tie as tie
+
+numbers-of-requires : tie.Need-numbers-of-requires
+numbers-of-requires c κs = search needs
+
+abandon-requires : tie.Need-abandon-requires
+abandon-requires c κs = search needs
+
+renewed-requires : tie.Need-renewed-requires
+renewed-requires c κs = search needs
+
+returns : tie.Need-returns
+returns c =
+    let n = c .before .before in
+    let s = n .before .args .self in
+    c .renewed .ensures
+    ∙ c .before .abandon .ensures (arraysOf s) (n .numbers-of .ensures .1)
+    ∙ ap (λ (x : Numbers). abandoned (syncOf x (arraysOf s))) (n .numbers-of .ensures .0)
+
+pub abandon-spec : {M : Type 1} → statement M
+abandon-spec = tie.close (tie.spec numbers-of-requires abandon-requires renewed-requires returns)

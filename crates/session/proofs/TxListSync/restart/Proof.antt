@@ -1,0 +1,28 @@
+-- `session::TxListSync::restart` meets its contract. Assumes nothing.
+use mathlib.Core.Path.{ap, _∙_}
+use borrow.Author.Needs.{needs}
+use Rattle.session.specs.declared.Numbers.{Numbers}
+use Rattle.session.specs.Sync.{restarted}
+use Rattle.session.specs.Lent.{syncOf, arraysOf}
+use Rattle.session.proofs.TxListSync.restart.Statement.{statement}
+use Rattle.session.proofs.TxListSync.restart.Tie as tie
+
+numbers-of-requires : tie.Need-numbers-of-requires
+numbers-of-requires c κs = search needs
+
+restart-requires : tie.Need-restart-requires
+restart-requires c κs = search needs
+
+renewed-requires : tie.Need-renewed-requires
+renewed-requires c κs = search needs
+
+returns : tie.Need-returns
+returns c =
+    let n = c .before .before in
+    let s = n .before .args .self in
+    c .renewed .ensures
+    ∙ c .before .restart .ensures (arraysOf s) (n .numbers-of .ensures .1)
+    ∙ ap (λ (x : Numbers). restarted (syncOf x (arraysOf s))) (n .numbers-of .ensures .0)
+
+pub restart-spec : {M : Type 1} → statement M
+restart-spec = tie.close (tie.spec numbers-of-requires restart-requires renewed-requires returns)
