@@ -2,14 +2,14 @@
 use Prim.Native.Nat.{ℕ, _+_, _-_, _≤_}
 use native.Mathlib.Omega.{arith}
 use mathlib.Core.Path.{_≡_, refl}
-use mathlib.Core.Bool.{Bool, true, false, not, _&&_}
+use mathlib.Core.Bool.{Bool, true, false, not, _&&_, and-assoc}
 use mathlib.Core.List.{List}
 use lib.ListN.{length, take, drop, length-drop}
 use lib.Seq.{length-take-le}
 use Rattle.lists.specs.declared.F2List.{F2List}
-use Rattle.tx_list.specs.Views.{has, Answer, enabled, there, denied, isFresh, starts, isAnswer, answerOf, ackOf, ackBy, good, nothing}
-use Rattle.tx_list.specs.Memory.{Flat}
-use Rattle.tx_list.specs.Moves.{heard, answered, goesOn, marks, stays, committed, activated}
+use Rattle.tx_list.specs.Views.{has, Answer, enabled, there, denied, isGood, isThere, isDenied, isFresh, starts, isAnswer, answerOf, ackOf, ackBy, good, nothing}
+use Rattle.tx_list.specs.Memory.{Buf, live, Flat}
+use Rattle.tx_list.specs.Moves.{pushIf, withKnown, withRecord, withOwed, heard, answered, goesOn, oldest, marks, stays, committed, activated}
 use Rattle.tx_list.specs.declared.State.the-variants.{Enabling, Committing, Activating}
 use Rattle.session.specs.Sync.{kind}
 
@@ -24,6 +24,23 @@ unfolding isNow isFresh
 fresh-now enabled p l = refl
 fresh-now there p l = refl
 fresh-now denied p l = refl
+
+-- the known list, the record and the fresh ones after an answer to p: each pushed to where its test passed
+pub marked : (h : Flat F2List ℕ) (m : List ℕ) {a : Answer} {p : ℕ} {isgood isnow isthere isdenied lacked unsaved : Bool} {k r q u : Buf ℕ}
+    → a ≡ answerOf m
+    → p ≡ oldest kind h
+    → isgood ≡ isGood a
+    → isnow ≡ isNow a
+    → isthere ≡ isThere a
+    → isdenied ≡ isDenied a
+    → lacked ≡ ((h .isKnown && isgood) && not (has p (live (h .known))))
+    → unsaved ≡ (isnow && not (has p (live (h .saved))))
+    → k ≡ pushIf lacked (h .known) p
+    → r ≡ pushIf isthere (h .present) p
+    → q ≡ pushIf isdenied (h .refused) p
+    → u ≡ pushIf unsaved (h .fresh) p
+    → withOwed (withRecord (withKnown h (h .isKnown) (h .complete) k) (h .saved) r q) (h .owed) u ≡ marks kind h m (answerOf m)
+marked h m ea ep eg en et ed el es ek er eq eu = rw (ek, er, eq, eu, el, es, eg, en, et, ed, ea, ep, and-assoc, fresh-now)
 
 -- the answer to commit or activate, by its first byte
 ack-good : (b : ℕ) (m : List ℕ) → starts b m ≡ true → ackOf false b m ≡ good

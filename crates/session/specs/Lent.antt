@@ -3,7 +3,8 @@ use mathlib.Core.Path.{_≡_}
 use mathlib.Core.Bool.{Bool, true, false, not, _&&_}
 use mathlib.Core.List.{List}
 use Prim.Native.Nat.{ℕ}
-use lib.Dec.{leb}
+use lib.Dec.{leb, ltb}
+use lib.Seq.{sets}
 use lib.ListN.{length}
 use Rattle.field.specs.Pick.{pick}
 use Rattle.lists.specs.declared.F2List.{F2List}
@@ -24,7 +25,7 @@ use Rattle.session.specs.declared.Renewed.{Renewed}
 use Rattle.session.specs.declared.Begun.{Begun}
 use Rattle.session.specs.declared.write.Step.{Step}
 use Rattle.session.specs.declared.parts.PartStep.{PartStep}
-use Rattle.session.specs.Sync.{ofSync, commandsOf, Stepped, Told}
+use Rattle.session.specs.Sync.{ofSync, recordFits, commandsOf, Stepped, Told}
 use Rattle.session.specs.Sound.{helm, countsOf}
 
 -- the arrays, whole
@@ -262,3 +263,43 @@ readsF2 Done = false
 
 abbrev pub notHere : Numbers → Arrays → List ℕ → Told
 notHere x a out = record { number = 100; count = 0; sync = syncOf x a; out = out }
+
+-- begin: the record's lists stay where they stand; every other count is 0
+abbrev pub openedWith : Counts → ℕ → Numbers
+openedWith c n =
+    record {
+      state = AwaitStartup;
+      totals =
+          record {
+            counts =
+                record {
+                  wanted = n;
+                  owed = 0;
+                  fresh = 0;
+                  list = 0;
+                  proprietary = 0;
+                  known = 0;
+                  saved = c .saved;
+                  present = c .present;
+                  refused = c .refused;
+                };
+            deadline = 0;
+            read = false;
+            complete = false;
+            told = false;
+            version = 0;
+            blank = true;
+          };
+    }
+
+-- these PGNs written over the array of the wanted ones
+abbrev pub wanting : Arrays → List ℕ → Arrays
+wanting a want =
+    lent (sets (a .wanted) 0 want) (a .owed) (a .fresh) (a .list) (a .known) (a .saved) (a .present) (a .refused) (a .f2)
+
+-- refused with 11, then 12, and nothing changes; else the session that LentBegin shows to be begin's
+unfoldable pub begunIn : Numbers → List ℕ → Arrays → Begun
+begunIn x want a =
+    pick (ltb 64 (length want)) (record { number = 11; sync = syncOf x a })
+    (pick (recordFits (syncOf x a .held .learned)) (record { number = 0; sync = syncOf (openedWith (x .totals .counts) (length want)) (wanting a want) })
+    (record { number = 12; sync = syncOf x a }))

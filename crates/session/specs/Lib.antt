@@ -11,3 +11,4 @@ pub mod WriteLaws
 pub mod OpeningLaws
 pub mod ReadingLaws
 pub mod LentReading
+pub mod LentBegin

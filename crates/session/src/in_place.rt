@@ -23,9 +23,32 @@ ghost use lib.ListN.{length};
 ghost use Rattle.field.specs.Pick.{pick};
 ghost use Rattle.tx_list.specs.Reading as model;
 ghost use Rattle.session.specs.Sync.{called, setTo, restarted, abandoned, doneOf, lackOf, toldLacks};
-ghost use Rattle.session.specs.Lent.{Arrays, Fits, lent, syncOf, toldAnswer, toldParted, toldRenewed, readsF2, notHere, idleAt, ignoredAt};
+ghost use Rattle.session.specs.Lent.{Arrays, Fits, lent, syncOf, toldAnswer, toldParted, toldRenewed, readsF2, notHere, idleAt, ignoredAt, begunIn};
 
 impl Numbers {
+    // A session that wants these PGNs. Its record is what stands in the arrays of saved, present and refused, with the counts that the
+    // numbers give; nothing else of the numbers counts. Refuses with 11, 12.
+    pub fn begin(self, want: &[u32], wanted: &mut [u32; 64]) -> Renewed
+        ensures { λ r. ⌜ ((o u l k s p q : List ℕ) (f : F2List) → toldRenewed r (lent (now (wanted .exit)) o u l k s p q f) ≡ begunIn self (now (want .entry)) (lent (now (wanted .entry)) o u l k s p q f)) ⌝ }
+    {
+        if 64 < want.len() {
+            return Renewed {
+                number: 11,
+                numbers: self,
+            };
+        }
+        if !sound::record_within(self) {
+            return Renewed {
+                number: 12,
+                numbers: self,
+            };
+        }
+        let n = want.len();
+        pgns::append(wanted, 0, want, n);
+        let numbers = opening::opened(self.totals.counts, n);
+        Renewed { number: 0, numbers }
+    }
+
     // A message of the gateway at a time, while anything but Format 2 is read. Refuses with 16, 13, 6, 7, 14.
     pub fn message(
         self,

@@ -9,8 +9,10 @@ use super::List256;
 use super::List1024;
 use super::List1344;
 use super::Numbers;
+use super::Totals;
 use super::TxListRecord;
 use super::TxListSync;
+use bounds::Counts;
 use lists::F2List;
 use tx_list::State;
 ghost use mathlib.Core.Path.{_≡_};
@@ -22,7 +24,7 @@ ghost use Rattle.tx_list.specs.Memory.{live, fill, writeFlat};
 ghost use Rattle.tx_list.specs.Moves.{startsOver, withFirmware};
 ghost use mathlib.Core.List.{List};
 ghost use Rattle.session.specs.Sync.{kind, clear, of256, to256, ofSync, toSync, recordOf, knownOf, doneIn, says, toldLacks};
-ghost use Rattle.session.specs.Lent.{Arrays, lent, syncOf, flatOf};
+ghost use Rattle.session.specs.Lent.{Arrays, lent, syncOf, flatOf, openedWith};
 
 // A session that wants nothing and knows nothing.
 fn clear_sync() -> TxListSync
@@ -116,6 +118,36 @@ pub(crate) fn new_sync(wanted: &[u32], learned: TxListRecord) -> TxListSync
     TxListSync {
         state: State::AwaitStartup,
         held: h,
+    }
+}
+
+// The numbers of a session that has just begun: n PGNs are wanted, and the record's lists have the counts that they had.
+pub(crate) fn opened(c: Counts, n: usize) -> Numbers
+    ensures { λ r. ⌜ r ≡ openedWith c n ⌝ }
+{
+    let counts = Counts {
+        wanted: n,
+        owed: 0,
+        fresh: 0,
+        list: 0,
+        proprietary: 0,
+        known: 0,
+        saved: c.saved,
+        present: c.present,
+        refused: c.refused,
+    };
+    let totals = Totals {
+        counts,
+        deadline: 0,
+        read: false,
+        complete: false,
+        told: false,
+        version: 0,
+        blank: true,
+    };
+    Numbers {
+        state: State::AwaitStartup,
+        totals,
     }
 }
 

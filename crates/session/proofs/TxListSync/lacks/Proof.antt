@@ -17,7 +17,7 @@ returns : tie.Need-returns
 returns c =
     let n = c .before .before .before in
     let b = n .before .args in
-    let s = b .self in
+    let s = b .t1 in
     let a = arraysOf s in
     c .lacks .ensures (a .wanted) (a .owed) (a .fresh) (a .list) (a .saved) (a .present) (a .refused) (a .f2) (n .numbers-of .ensures .1)
     ∙ ap (λ (x : Numbers). lackOf (syncOf x (arraysOf s)) (b .pgn)) (n .numbers-of .ensures .0)
