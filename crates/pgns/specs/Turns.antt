@@ -4,11 +4,11 @@ use native.Mathlib.Nat.{add-zero}
 use native.Mathlib.Numerals.{add-one}
 use native.Mathlib.Omega.{arith}
 use mathlib.Core.Path.{_≡_, refl, ap, ap₂, sym, _∙_}
-use mathlib.Core.Bool.{Bool, true, false, not, _&&_, _||_}
+use mathlib.Core.Bool.{Bool, true, false, not, _&&_, _||_, or-assoc, or-false}
 use mathlib.Core.List.{List, [], _∷_, _++_, map}
-use borrow.Author.Tests.{le-leb, lt-leb, leb-true, leb-false, eq-eqb, ne-eqb}
+use borrow.Author.Tests.{le-leb, lt-leb, leb-true, leb-false}
 use lib.Dec.{leb, eqb}
-use lib.ListN.{length, getD, take, drop, set, drop-of-length-le, length-append, take-append-drop}
+use lib.ListN.{length, getD, take, drop, set, drop-of-length-le, length-append, length-drop, take-append-drop}
 use lib.Seq.{sets, sets-eq, length-sets, take-all, take-at, drop-at, length-take-le, drop-cons, drop-drop, set-out, getD-take, take-set-lt, drop-set-lt}
 use Rattle.field.specs.Fields.{field}
 use Rattle.field.specs.FieldLaws.{field-past}
@@ -18,6 +18,7 @@ use Rattle.tx_list.specs.Session.{owed}
 use Rattle.pgns.specs.Lists.{told, noted, owedOf, owedIn, skips}
 use Rattle.pgns.specs.PgnsLaws.{only-true, only-false, least-low, least-high}
 use Rattle.tx_list.proofs.Lists.{only-length}
+use Rattle.tx_list.proofs.LiveLists.{has-append}
 
 -- The first n
 
@@ -39,20 +40,35 @@ take-least n l = go (leb n (length l)) refl
 
 -- Looking a PGN up
 
-module _ (p : ℕ) (l : List ℕ) (i : ℕ) (h : i < length l) where
-  has-turn : has p (drop i l) ≡ eqb p (getD l i 0) || has p (drop (i + 1) l)
-  unfolding has
-  has-turn = rw (add-one, drop-cons l i 0)
-
-  pub has-here : getD l i 0 ≡ p → has p (drop i l) ≡ true
-  has-here e = has-turn ∙ ap (λ (t : Bool). t || has p (drop (i + 1) l)) (eq-eqb p (getD l i 0) (sym e))
-
-  pub has-next : (getD l i 0 ≡ p → ⊥) → has p (drop i l) ≡ has p (drop (i + 1) l)
-  has-next n = has-turn ∙ ap (λ (t : Bool). t || has p (drop (i + 1) l)) (ne-eqb p (getD l i 0) (λ e. n (sym e)))
-
-pub has-end : (p : ℕ) (l : List ℕ) (i : ℕ) → length l ≤ i → has p (drop i l) ≡ false
+-- one entry more, with what came of those before it
+pub scan-next : (p : ℕ) (l : List ℕ) (i : ℕ) (hit : Bool) → i < length l
+    → hit || has p (drop i l) ≡ hit || eqb p (getD l i 0) || has p (drop (i + 1) l)
 unfolding has
-has-end p l i h = rw (drop-of-length-le l h)
+scan-next p l i hit h =
+    rw (add-one i, drop-cons l i 0 h) (sym (or-assoc hit (eqb p (getD l i 0)) (has p (drop (suc i) l))))
+
+pub scan-end : (p : ℕ) (l : List ℕ) (i : ℕ) (hit : Bool) → length l ≤ i → hit || has p (drop i l) ≡ hit
+unfolding has
+scan-end p l i hit h = rw (drop-of-length-le l h) (or-false hit)
+
+-- the entries from i up to e
+module _ (p : ℕ) (l : List ℕ) (i e : ℕ) (h : i ≤ e) where
+  has-part : has p (drop i l) ≡ has p (take (e - i) (drop i l)) || has p (drop e l)
+  has-part =
+      let k : i + (e - i) ≡ e = omega arith in
+      ap (has p) (sym (take-append-drop (e - i) (drop i l)))
+      ∙ has-append p (take (e - i) (drop i l)) (drop (e - i) (drop i l))
+      ∙ ap (λ (o : List ℕ). has p (take (e - i) (drop i l)) || has p o) (drop-drop (e - i) i l ∙ ap (λ (n : ℕ). drop n l) k)
+
+  pub part-has : has p (take (e - i) (drop i l)) ≡ true → has p (drop i l) ≡ true
+  part-has t = has-part ∙ ap (λ (b : Bool). b || has p (drop e l)) t
+
+  pub part-lacks : has p (take (e - i) (drop i l)) ≡ false → has p (drop i l) ≡ has p (drop e l)
+  part-lacks t = has-part ∙ ap (λ (b : Bool). b || has p (drop e l)) t
+
+-- all from i on
+pub part-last : (p : ℕ) (l : List ℕ) (i : ℕ) → has p (drop i l) ≡ has p (take (length l - i) (drop i l))
+part-last p l i = ap (has p) (sym (take-all (length l - i) (drop i l) (omega (arith, length-drop i l))))
 
 -- Storing
 

@@ -24,17 +24,32 @@ fn first(list: &[u32], n: usize) -> &[u32]
     &list[..end]
 }
 
+// Every entry is looked at, so that the compiler can compare several at a time.
+fn scan(list: &[u32], pgn: u32) -> bool
+    ensures { λ r. ⌜ r ≡ view.has pgn (now (list .entry)) ⌝ }
+{
+    let mut hit = false;
+    let mut i = 0;
+    while i < list.len() {
+        hit = hit | (pgn == list[i]);
+        i += 1;
+    }
+    hit
+}
+
+// 64 entries at a time, and no more than are needed.
 fn contains(list: &[u32], pgn: u32) -> bool
     ensures { λ r. ⌜ r ≡ view.has pgn (now (list .entry)) ⌝ }
 {
     let mut i = 0;
-    while i < list.len() {
-        if list[i] == pgn {
+    while 64 <= list.len() - i {
+        let end = i + 64;
+        if scan(&list[i..end], pgn) {
             return true;
         }
-        i += 1;
+        i = end;
     }
-    false
+    scan(&list[i..], pgn)
 }
 
 // Whether the first n of list have the PGN.
