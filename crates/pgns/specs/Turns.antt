@@ -1,25 +1,33 @@
 -- One turn of each loop over a list of PGNs: what is left to do before it, and after it. Assumes nothing.
-use Prim.Native.Nat.{ℕ, zero, suc, _+_, _-_, _≤_, _<_}
-use native.Mathlib.Nat.{add-zero}
+use Prim.Native.Nat.{ℕ, zero, suc, _+_, _-_, _*_, _≤_, _<_}
+use native.Mathlib.Nat.{add-zero, zero-add, suc-add}
 use native.Mathlib.Numerals.{add-one}
 use native.Mathlib.Omega.{arith}
 use mathlib.Core.Path.{_≡_, refl, ap, ap₂, sym, _∙_}
-use mathlib.Core.Bool.{Bool, true, false, not, _&&_, _||_}
+use mathlib.Core.Bool.{Bool, true, false, not, _&&_, _||_, or-assoc, or-false}
 use mathlib.Core.List.{List, [], _∷_, _++_, map}
-use borrow.Author.Tests.{le-leb, lt-leb, leb-true, leb-false, eq-eqb, ne-eqb}
+use borrow.Author.Tests.{le-leb, lt-leb, leb-true, leb-false}
 use lib.Dec.{leb, eqb}
-use lib.ListN.{length, getD, take, drop, set, drop-of-length-le, length-append, take-append-drop}
+use lib.ListN.{length, getD, take, drop, set, drop-of-length-le, length-append, length-drop, take-append-drop}
 use lib.Seq.{sets, sets-eq, length-sets, take-all, take-at, drop-at, length-take-le, drop-cons, drop-drop, set-out, getD-take, take-set-lt, drop-set-lt}
 use Rattle.field.specs.Fields.{field}
-use Rattle.field.specs.FieldLaws.{field-past}
+use Rattle.field.specs.FieldLaws.{field-past, field-suc, field-one}
 use Rattle.field.specs.WrittenLaws.{sets-written}
 use Rattle.tx_list.specs.Views.{has, only, note, notes, least, pgnsAt}
 use Rattle.tx_list.specs.Session.{owed}
 use Rattle.pgns.specs.Lists.{told, noted, owedOf, owedIn, skips}
 use Rattle.pgns.specs.PgnsLaws.{only-true, only-false, least-low, least-high}
 use Rattle.tx_list.proofs.Lists.{only-length}
+use Rattle.tx_list.proofs.LiveLists.{has-append}
 
 -- The first n
+
+pub least-first : (a b : ℕ) → least a b ≤ a
+least-first a b = go (leb a b) refl
+  where
+    go : (t : Bool) → leb a b ≡ t → least a b ≤ a
+    go true e = rw (least-low a b (leb-true a b e)) (omega arith)
+    go false e = let l = leb-false a b e in rw (least-high a b (omega arith)) (omega arith)
 
 pub least-le : (a b : ℕ) → least a b ≤ b
 least-le a b = go (leb a b) refl
@@ -39,20 +47,35 @@ take-least n l = go (leb n (length l)) refl
 
 -- Looking a PGN up
 
-module _ (p : ℕ) (l : List ℕ) (i : ℕ) (h : i < length l) where
-  has-turn : has p (drop i l) ≡ eqb p (getD l i 0) || has p (drop (i + 1) l)
-  unfolding has
-  has-turn = rw (add-one, drop-cons l i 0)
-
-  pub has-here : getD l i 0 ≡ p → has p (drop i l) ≡ true
-  has-here e = has-turn ∙ ap (λ (t : Bool). t || has p (drop (i + 1) l)) (eq-eqb p (getD l i 0) (sym e))
-
-  pub has-next : (getD l i 0 ≡ p → ⊥) → has p (drop i l) ≡ has p (drop (i + 1) l)
-  has-next n = has-turn ∙ ap (λ (t : Bool). t || has p (drop (i + 1) l)) (ne-eqb p (getD l i 0) (λ e. n (sym e)))
-
-pub has-end : (p : ℕ) (l : List ℕ) (i : ℕ) → length l ≤ i → has p (drop i l) ≡ false
+-- one entry more, with what came of those before it
+pub scan-next : (p : ℕ) (l : List ℕ) (i : ℕ) (hit : Bool) → i < length l
+    → hit || has p (drop i l) ≡ hit || eqb p (getD l i 0) || has p (drop (i + 1) l)
 unfolding has
-has-end p l i h = rw (drop-of-length-le l h)
+scan-next p l i hit h =
+    rw (add-one i, drop-cons l i 0 h) (sym (or-assoc hit (eqb p (getD l i 0)) (has p (drop (suc i) l))))
+
+pub scan-end : (p : ℕ) (l : List ℕ) (i : ℕ) (hit : Bool) → length l ≤ i → hit || has p (drop i l) ≡ hit
+unfolding has
+scan-end p l i hit h = rw (drop-of-length-le l h) (or-false hit)
+
+-- the entries from i up to e
+module _ (p : ℕ) (l : List ℕ) (i e : ℕ) (h : i ≤ e) where
+  has-part : has p (drop i l) ≡ has p (take (e - i) (drop i l)) || has p (drop e l)
+  has-part =
+      let k : i + (e - i) ≡ e = omega arith in
+      ap (has p) (sym (take-append-drop (e - i) (drop i l)))
+      ∙ has-append p (take (e - i) (drop i l)) (drop (e - i) (drop i l))
+      ∙ ap (λ (o : List ℕ). has p (take (e - i) (drop i l)) || has p o) (drop-drop (e - i) i l ∙ ap (λ (n : ℕ). drop n l) k)
+
+  pub part-has : has p (take (e - i) (drop i l)) ≡ true → has p (drop i l) ≡ true
+  part-has t = has-part ∙ ap (λ (b : Bool). b || has p (drop e l)) t
+
+  pub part-lacks : has p (take (e - i) (drop i l)) ≡ false → has p (drop i l) ≡ has p (drop e l)
+  part-lacks t = has-part ∙ ap (λ (b : Bool). b || has p (drop e l)) t
+
+-- all from i on
+pub part-last : (p : ℕ) (l : List ℕ) (i : ℕ) → has p (drop i l) ≡ has p (take (length l - i) (drop i l))
+part-last p l i = ap (has p) (sym (take-all (length l - i) (drop i l) (omega (arith, length-drop i l))))
 
 -- Storing
 
@@ -190,15 +213,39 @@ pgns-least m a n = go (leb a (length m)) refl
         let h : length m ≤ a = omega (arith, leb-false a (length m) e) in
         pgns-past m a (length m) n h (omega arith) ∙ ap (λ (k : ℕ). pgnsAt m k n) (sym (least-high a (length m) h))
 
+pub whole-next : (l : List ℕ) (k : ℕ) (m : List ℕ) (j left : ℕ) → 0 < left
+    → sets l k (pgnsAt m j left) ≡ sets (set l k (field m j 4)) (k + 1) (pgnsAt m (j + 4) (left - 1))
+unfolding pgnsAt
+whole-next l k m j zero h = absurd (omega arith)
+whole-next l k m j (suc n) h =
+    let e : n ≡ suc n - 1 = omega arith in
+    ap₂ (λ (a b : ℕ). sets (set l k (field m j 4)) a (pgnsAt m (j + 4) b)) (sym (add-one k)) e
+
 pub pgns-next : (l : List ℕ) (k : ℕ) (m : List ℕ) (j left : ℕ) → 0 < left
     → sets l k (pgnsAt m j left) ≡ sets (set l k (field m j 4)) (k + 1) (pgnsAt m (least (j + 4) (length m)) (left - 1))
+pgns-next l k m j left h =
+    whole-next l k m j left h ∙ ap (sets (set l k (field m j 4)) (k + 1)) (pgns-least m (j + 4) (left - 1))
+
+pub four-bytes : (m : List ℕ) (j : ℕ) → getD m j 0 + 256 * (getD m (j + 1) 0 + 256 * (getD m (j + 2) 0 + 256 * getD m (j + 3) 0)) ≡ field m j 4
+four-bytes m j =
+    let b : j + 2 ≡ j + 1 + 1 = omega arith in
+    let c : j + 3 ≡ j + 1 + 1 + 1 = omega arith in
+    omega
+    (arith, field-suc m j 3, field-suc m (j + 1) 2, field-suc m (j + 1 + 1) 1, field-one m (j + 1 + 1 + 1), ap (λ (i : ℕ). getD m i 0) b, ap (λ (i : ℕ). getD m i 0) c)
+
+-- the first g, and n more
+pub pgns-split : (g n : ℕ) (l : List ℕ) (at : ℕ) (m : List ℕ) (from : ℕ)
+    → sets l at (pgnsAt m from (g + n)) ≡ sets (sets l at (pgnsAt m from g)) (at + g) (pgnsAt m (from + 4 * g) n)
 unfolding pgnsAt
-pgns-next l k m j zero h = absurd (omega arith)
-pgns-next l k m j (suc n) h =
-    let e : n ≡ suc n - 1 = omega arith in
-    let f : suc k ≡ k + 1 = sym (add-one k) in
-    ap₂ (λ (a : ℕ) (o : List ℕ). sets (set l k (field m j 4)) a o) f
-    (pgns-least m (j + 4) n ∙ ap (pgnsAt m (least (j + 4) (length m))) e)
+pgns-split zero n l at m from =
+    let a : at ≡ at + 0 = omega arith in
+    let f : from ≡ from + 4 * 0 = omega arith in
+    rw (zero-add n) (ap₂ (λ (i j : ℕ). sets l i (pgnsAt m j n)) a f)
+pgns-split (suc g) n l at m from =
+    let a : suc at + g ≡ at + suc g = omega arith in
+    let f : from + 4 + 4 * g ≡ from + 4 * suc g = omega arith in
+    rw suc-add
+    (pgns-split g n (set l at (field m from 4)) (suc at) m (from + 4) ∙ ap₂ (λ (i j : ℕ). sets (sets l at (pgnsAt m from (suc g))) i (pgnsAt m j n)) a f)
 
 -- What is owed
 

@@ -2,7 +2,7 @@
 // Stands below the session. No function requires anything: a count past an array's end counts the array, and what does not fit is dropped.
 ghost use mathlib.Core.Path.{_≡_};
 ghost use mathlib.Core.Bool.{not};
-ghost use Prim.Native.Nat.{_+_, _≤_, _<_};
+ghost use Prim.Native.Nat.{_+_, _-_, _*_, _≤_, _<_};
 ghost use lib.ListN.{length, take, drop};
 ghost use lib.Seq.{sets};
 ghost use lib.Dec.{leb};
@@ -24,17 +24,32 @@ fn first(list: &[u32], n: usize) -> &[u32]
     &list[..end]
 }
 
+// Every entry is looked at, so that the compiler can compare several at a time.
+fn scan(list: &[u32], pgn: u32) -> bool
+    ensures { λ r. ⌜ r ≡ view.has pgn (now (list .entry)) ⌝ }
+{
+    let mut hit = false;
+    let mut i = 0;
+    while i < list.len() {
+        hit = hit | (pgn == list[i]);
+        i += 1;
+    }
+    hit
+}
+
+// 64 entries at a time, and no more than are needed.
 fn contains(list: &[u32], pgn: u32) -> bool
     ensures { λ r. ⌜ r ≡ view.has pgn (now (list .entry)) ⌝ }
 {
     let mut i = 0;
-    while i < list.len() {
-        if list[i] == pgn {
+    while 64 <= list.len() - i {
+        let end = i + 64;
+        if scan(&list[i..end], pgn) {
             return true;
         }
-        i += 1;
+        i = end;
     }
-    false
+    scan(&list[i..], pgn)
 }
 
 // Whether the first n of list have the PGN.
@@ -126,8 +141,38 @@ fn onward(at: usize, k: usize, end: usize) -> usize
     if sum_fits(at, k, end) { at + k } else { end }
 }
 
-// n PGNs of four bytes of m, from byte `from` on, at the places from `at` on; bytes past the end count as 0.
-pub fn add_pgns(dst: &mut [u32], at: usize, m: &[u8], from: usize, n: usize)
+// How many of len there are from the place `at` on.
+fn rest(len: usize, at: usize) -> usize
+    ensures { λ r. ⌜ r ≡ len - at ⌝ }
+{
+    if at <= len { len - at } else { 0 }
+}
+
+// Four bytes as a number, the lowest first.
+fn of_bytes(a: u8, b: u8, c: u8, d: u8) -> u32
+    ensures { λ r. ⌜ r ≡ a + 256 * (b + 256 * (c + 256 * d)) ⌝ }
+{
+    a as u32 + 256 * (b as u32 + 256 * (c as u32 + 256 * (d as u32)))
+}
+
+// n PGNs that lie wholly inside m, and for which dst has room: no test in the loop.
+fn add_whole(dst: &mut [u32], at: usize, m: &[u8], from: usize, n: usize)
+    requires { ⌜ (n ≤ length (now dst) - at) × (4 * n ≤ length (now m) - from) ⌝ }
+    ensures { λ _. ⌜ now (dst .exit) ≡ sets (now (dst .entry)) at (view.pgnsAt (now (m .entry)) from n) ⌝ }
+{
+    let mut k = at;
+    let mut j = from;
+    let mut left = n;
+    while left > 0 {
+        dst[k] = of_bytes(m[j], m[j + 1], m[j + 2], m[j + 3]);
+        j += 4;
+        k += 1;
+        left -= 1;
+    }
+}
+
+// n PGNs, wherever m and dst end.
+fn add_each(dst: &mut [u32], at: usize, m: &[u8], from: usize, n: usize)
     ensures { λ _. ⌜ now (dst .exit) ≡ sets (now (dst .entry)) at (view.pgnsAt (now (m .entry)) from n) ⌝ }
 {
     let mut k = at;
@@ -141,6 +186,17 @@ pub fn add_pgns(dst: &mut [u32], at: usize, m: &[u8], from: usize, n: usize)
         j = onward(j, 4, m.len());
         k += 1;
         left -= 1;
+    }
+}
+
+// n PGNs of four bytes of m, from byte `from` on, at the places from `at` on; bytes past the end count as 0.
+pub fn add_pgns(dst: &mut [u32], at: usize, m: &[u8], from: usize, n: usize)
+    ensures { λ _. ⌜ now (dst .exit) ≡ sets (now (dst .entry)) at (view.pgnsAt (now (m .entry)) from n) ⌝ }
+{
+    let whole = least(least(n, rest(dst.len(), at)), rest(m.len(), from) / 4);
+    add_whole(dst, at, m, from, whole);
+    if whole < n {
+        add_each(dst, at + whole, m, from + 4 * whole, n - whole);
     }
 }
 

@@ -1,90 +1,104 @@
 -- `pgns::add_pgns` meets its contract. Assumes nothing.
-use Prim.Native.Nat.{ℕ}
+use Prim.Native.Nat.{ℕ, _≤_, _-_, _+_, _*_, _/_}
 use native.Mathlib.Omega.{arith}
+use mathlib.Core.List.{List}
 use mathlib.Core.Path.{_≡_, ap, sym, _∙_}
 use borrow.Author.Needs.{needs}
-use lib.ListN.{length, length-set}
+use lib.ListN.{length}
 use lib.Seq.{sets}
 use Rattle.tx_list.specs.Views.{pgnsAt}
-use Rattle.pgns.specs.Turns.{sets-past, pgns-next}
+use Rattle.pgns.specs.Turns.{least-first, least-le, pgns-split}
 use Rattle.pgns.proofs.add_pgns.Statement.{statement}
 use Rattle.pgns.proofs.add_pgns.Tie as tie
 
-abbrev Inv-loop : tie.InvT-loop
-Inv-loop dst₀ at m from n k₀ j₀ left₀ dst k j left = (length dst ≡ length dst₀) × (sets dst₀ at (pgnsAt m from n) ≡ sets dst k (pgnsAt m j left))
+rest-requires : tie.Need-rest-requires
+rest-requires c κs = search needs
 
-abbrev μ-loop : tie.MeasureT-loop
-μ-loop dst₀ at m from n k₀ j₀ left₀ dst k j left = left
+least-requires : tie.Need-least-requires
+least-requires c κs = search needs
 
-loop-holds : tie.Need-loop-holds Inv-loop μ-loop
-loop-holds c = search needs
+rest-requires-2 : tie.Need-rest-requires-2
+rest-requires-2 c κs = search needs
 
-same-length : tie.Need-same-length Inv-loop μ-loop
+least-requires-2 : tie.Need-least-requires-2
+least-requires-2 c κs = search needs
+
+-- the whole ones: no more than there are, than have room, than lie inside
+inside : (c : tie.After-least2)
+    → (c .least2 .result ≤ c .before .before .before .before .before .before .args .n)
+    × (c .least2 .result
+    ≤ length (c .before .before .before .before .before .before .args .dst .now) - c .before .before .before .before .before .before .args .at)
+    × (4 * c .least2 .result
+    ≤ length (c .before .before .before .before .before .before .args .m .now) - c .before .before .before .before .before .before .args .from)
+inside c =
+    let a = c .before .before .before .before .before .before .args in
+    let d = c .before .before .before .rest in
+    let u = c .before .before .least in
+    let q = c .before .rest2 in
+    let w = c .least2 in
+    let x : w .result ≤ u .result = rw (w .ensures) (least-first (u .result) (q .result / 4)) in
+    let y : w .result ≤ q .result / 4 = rw (w .ensures) (least-le (u .result) (q .result / 4)) in
+    let v : u .result ≤ a .n = rw (u .ensures) (least-first (a .n) (d .result)) in
+    let z : u .result ≤ d .result = rw (u .ensures) (least-le (a .n) (d .result)) in
+    (omega arith, omega (arith, d .ensures), omega (arith, q .ensures))
+
+add-whole-requires : tie.Need-add-whole-requires
+add-whole-requires c κs = let i = inside (c .before) in (i .1, i .2)
+
+add-add-each : tie.Need-add-add-each
+add-add-each c = omega (arith, inside (c .before .before .before .before .before .before))
+
+mul-add-each : tie.Need-mul-add-each
+mul-add-each c = omega (arith, inside (c .before .before .before .before .before .before))
+
+add-add-each-2 : tie.Need-add-add-each-2
+add-add-each-2 c = omega (arith, inside (c .before .before .before .before .before .before))
+
+sub-add-each : tie.Need-sub-add-each
+sub-add-each c = search needs
+
+add-each-requires : tie.Need-add-each-requires
+add-each-requires c κs = search needs
+
+same-length : tie.Need-same-length
 same-length c = search needs
 
-returns : tie.Need-returns Inv-loop μ-loop
+returns : tie.Need-returns
 returns c =
-    let a = c .before .before .before .before .before .args in
-    let l = c .before .before .loop in
-    sym (l .inv .1 ∙ sets-past (pgnsAt (a .m .now) (l .j) (l .left)) (l .dst) (l .k) (c .if1 .taken))
+    let t = c .before .before .before .before .before .before .before .before .before in
+    let a = t .before .before .before .before .before .before .args in
+    let w = t .least2 .result in
+    let e : w + (a .n - w) ≡ a .n = omega (arith, inside t) in
+    c .before .before .add-each .ensures
+    ∙ ap (λ (l : List ℕ). sets l (a .at + w) (pgnsAt (a .m .now) (a .from + 4 * w) (a .n - w))) (c .before .before .before .before .before .before .before .add-whole .ensures)
+    ∙ sym (pgns-split w (a .n - w) (a .dst .now) (a .at) (a .m .now) (a .from))
+    ∙ ap (λ (k : ℕ). sets (a .dst .now) (a .at) (pgnsAt (a .m .now) (a .from) k)) e
 
-u32-at-requires : tie.Need-u32-at-requires Inv-loop μ-loop
-u32-at-requires c κs = search needs
-
-mul-dst : tie.Need-mul-dst Inv-loop μ-loop
-mul-dst c = search needs
-
-slice-write-dst : tie.Need-slice-write-dst Inv-loop μ-loop
-slice-write-dst c = search needs
-
-onward-requires : tie.Need-onward-requires Inv-loop μ-loop
-onward-requires c κs = search needs
-
-add-k : tie.Need-add-k Inv-loop μ-loop
-add-k c = search needs
-
-sub-left : tie.Need-sub-left Inv-loop μ-loop
-sub-left c = search needs
-
-loop-less : tie.Need-loop-less Inv-loop μ-loop
-loop-less c = search needs
-
-loop-again : tie.Need-loop-again Inv-loop μ-loop
-loop-again c =
-    let a = c .before .before .before .before .before .before .before .args in
-    let l = c .before .before .before .before .loop in (
-      length-set (l .dst) (l .k) (c .before .u32-at .result) ∙ l .inv .0,
-      rw (c .before .u32-at .ensures, c .onward .ensures)
-          (l .inv .1 ∙ pgns-next (l .dst) (l .k) (a .m .now) (l .j) (l .left) (omega arith)),
-    )
-
-same-length-2 : tie.Need-same-length-2 Inv-loop μ-loop
+same-length-2 : tie.Need-same-length-2
 same-length-2 c = search needs
 
-returns-2 : tie.Need-returns-2 Inv-loop μ-loop
-unfolding pgnsAt
+returns-2 : tie.Need-returns-2
 returns-2 c =
-    let a = c .before .before .before .before .args in
-    let l = c .before .loop in
-    let z : l .left ≡ 0 = omega arith in
-    sym (l .inv .1 ∙ ap (λ (n : ℕ). sets (l .dst) (l .k) (pgnsAt (a .m .now) (l .j) n)) z)
+    let t = c .before .before .before .before .before in
+    let a = t .before .before .before .before .before .before .args in
+    let e : t .least2 .result ≡ a .n = omega (arith, inside t) in
+    c .before .before .before .add-whole .ensures ∙ ap (λ (k : ℕ). sets (a .dst .now) (a .at) (pgnsAt (a .m .now) (a .from) k)) e
 
 pub add-pgns-spec : {M : Type 1} → statement M
 add-pgns-spec =
     tie.close
     (tie.spec
-    Inv-loop
-    μ-loop
-    loop-holds
+    rest-requires
+    least-requires
+    rest-requires-2
+    least-requires-2
+    add-whole-requires
+    add-add-each
+    mul-add-each
+    add-add-each-2
+    sub-add-each
+    add-each-requires
     same-length
     returns
-    u32-at-requires
-    mul-dst
-    slice-write-dst
-    onward-requires
-    add-k
-    sub-left
-    loop-less
-    loop-again
     same-length-2
     returns-2)
