@@ -128,10 +128,7 @@ pub(crate) fn await_answer(t: Totals, state: State, time: u64) -> Numbers
 {
     let mut u = t;
     u.deadline = time + ANSWER_TIMEOUT_MS;
-    Numbers {
-        state,
-        totals: u,
-    }
+    Numbers { state, totals: u }
 }
 
 // The next PGN owed is asked for.
@@ -254,7 +251,13 @@ fn save(x: Numbers, fresh: &[u32; 64], saved: &mut [u32; 256], time: u64) -> Ste
     }
 }
 
-pub(crate) fn on_activate(x: Numbers, fresh: &[u32; 64], saved: &mut [u32; 256], time: u64, payload: &[u8]) -> Step
+pub(crate) fn on_activate(
+    x: Numbers,
+    fresh: &[u32; 64],
+    saved: &mut [u32; 256],
+    time: u64,
+    payload: &[u8],
+) -> Step
     requires { ⌜ (time ≤ 18446744073709541615) × (x .totals .counts .saved + x .totals .counts .fresh ≤ 256) × (x .totals .counts .fresh ≤ 64) ⌝ }
     ensures { λ r. ⌜ ((w o l k p q : List ℕ) (f : F2List) → toldStep r (lent w o (now (fresh .entry)) l k (now (saved .exit)) p q f) ≡ stepOf (heard kind State.Activating (flatOf x (lent w o (now (fresh .entry)) l k (now (saved .entry)) p q f)) time (now (payload .entry)))) ⌝ }
 {

@@ -86,7 +86,17 @@ impl Numbers {
             return write::refused(14, self);
         }
         let step = reading::heard(
-            self, wanted, owed, fresh, list, known, saved, present, refused, time, payload,
+            self,
+            wanted,
+            owed,
+            fresh,
+            list,
+            known,
+            saved,
+            present,
+            refused,
+            time,
+            payload,
         );
         write::told(step, out)
     }
@@ -123,7 +133,15 @@ impl Numbers {
             return parts::refused_part(7, self, f2);
         }
         let step = parts::on_f2(
-            self, f2, wanted, owed, known, present, refused, time, payload,
+            self,
+            f2,
+            wanted,
+            owed,
+            known,
+            present,
+            refused,
+            time,
+            payload,
         );
         parts::told_part(step, out)
     }

@@ -71,11 +71,7 @@ fn with_parts(step: Step, f2: F2List) -> PartStep
 {
     let sent = step.sent;
     let numbers = step.numbers;
-    PartStep {
-        sent,
-        numbers,
-        f2,
-    }
+    PartStep { sent, numbers, f2 }
 }
 
 fn store_part(x: Numbers, p: F2List, time: u64) -> PartStep

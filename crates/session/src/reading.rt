@@ -141,7 +141,13 @@ fn on_list(
 }
 
 // The known list: the n PGNs at the front of its array, then the present ones that are absent.
-fn know(t: Totals, n: usize, known: &mut [u32; 1344], present: &[u32; 256], complete: bool) -> Totals
+fn know(
+    t: Totals,
+    n: usize,
+    known: &mut [u32; 1344],
+    present: &[u32; 256],
+    complete: bool,
+) -> Totals
     ensures { λ r. ⌜ r ≡ knownTotals t complete (noted (now (known .entry)) n (now (present .entry)) (t .counts .present) .n) ⌝ }
     ensures { λ r. ⌜ now (known .exit) ≡ noted (now (known .entry)) n (now (present .entry)) (t .counts .present) .items ⌝ }
 {
@@ -257,9 +263,29 @@ pub(crate) fn heard(
     match st {
         State::AwaitStartup => on_mode(x, time, payload),
         State::ReadAt => stay(x),
-        State::Reading(_) => on_f1(x, wanted, owed, list, known, present, refused, time, payload),
+        State::Reading(_) => on_f1(
+            x,
+            wanted,
+            owed,
+            list,
+            known,
+            present,
+            refused,
+            time,
+            payload,
+        ),
         State::ReadingF2(_) => stay(x),
-        State::Enabling => answers::on_enable(x, owed, fresh, known, saved, present, refused, time, payload),
+        State::Enabling => answers::on_enable(
+            x,
+            owed,
+            fresh,
+            known,
+            saved,
+            present,
+            refused,
+            time,
+            payload,
+        ),
         State::Committing => answers::on_commit(x, time, payload),
         State::Activating => answers::on_activate(x, fresh, saved, time, payload),
         State::Done => stay(x),

@@ -162,7 +162,16 @@ fn with_numbers(s: TxListSync, x: Numbers) -> TxListSync
     let refused = h.learned.refused.pgns;
     let f2 = h.f2;
     built(
-        x, wanted, owed, fresh, list, known, saved, present, refused, f2,
+        x,
+        wanted,
+        owed,
+        fresh,
+        list,
+        known,
+        saved,
+        present,
+        refused,
+        f2,
     )
 }
 
@@ -220,7 +229,16 @@ pub(crate) fn message_in(s: TxListSync, time: u64, payload: &[u8], out: &mut [u8
     let y = a.numbers;
     let f2 = h.f2;
     let sync = built(
-        y, wanted, owed, fresh, list, known, saved, present, refused, f2,
+        y,
+        wanted,
+        owed,
+        fresh,
+        list,
+        known,
+        saved,
+        present,
+        refused,
+        f2,
     );
     Called {
         number: a.number,
@@ -258,7 +276,16 @@ pub(crate) fn part_in(s: TxListSync, time: u64, payload: &[u8], out: &mut [u8]) 
     let y = a.numbers;
     let f2 = a.f2;
     let sync = built(
-        y, wanted, owed, fresh, list, known, saved, present, refused, f2,
+        y,
+        wanted,
+        owed,
+        fresh,
+        list,
+        known,
+        saved,
+        present,
+        refused,
+        f2,
     );
     Called {
         number: a.number,
