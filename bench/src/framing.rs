@@ -13,7 +13,7 @@ const STREAM: usize = 1 << 17;
 const PIECE: usize = 4096;
 
 /// A payload of command 93: most records are one CAN frame, the others fast packets.
-fn record(r: &mut Rng) -> Vec<u8> {
+pub fn record(r: &mut Rng) -> Vec<u8> {
     let len = if r.chance(90) { 8 } else { 9 + r.below(215) };
     let pgn = 126_992 + r.below(4_000) as u32;
     let mut payload = vec![2 + r.below(5) as u8];

@@ -4,13 +4,19 @@ use oracle::generate::Rng;
 use std::fmt::Debug;
 
 mod framing;
+mod lists;
 #[rustfmt::skip]
 #[path = "../../bindings/rust/ngt1.rs"]
 mod ngt1;
+#[cfg(session)]
+mod port_session;
 mod race;
+mod records;
+#[cfg(session)]
+mod session;
 
 /// Ends the run where the two sides differ.
-fn same<T: PartialEq + Debug>(name: &str, rust: &T, port: &T) {
+fn same<T: PartialEq + Debug + ?Sized>(name: &str, rust: &T, port: &T) {
     if rust != port {
         eprintln!("{name}: the two sides differ\n  rust {rust:?}\n  port {port:?}");
         std::process::exit(1);
@@ -28,4 +34,14 @@ fn main() {
     println!("# No buffer is cleared first: each side goes on in the memory that its last run left.");
     let mut r = Rng(7);
     framing::rows(&mut r);
+    records::rows(&mut r);
+    #[cfg(session)]
+    session::f1("f1-message");
+    lists::rows(&mut r);
+    #[cfg(session)]
+    session::rows();
+    #[cfg(not(session))]
+    println!(
+        "# The library has no session yet: f1-message, session-tick, session-message, session-whole and lacks are left out."
+    );
 }
