@@ -1,4 +1,5 @@
-/* Encodes A1 41, feeds the frame and a damaged copy of it in two pieces, and prints the events. Exit status 1: not as expected. */
+/* Encodes A1 41, feeds the frame and a damaged copy of it in two pieces, and prints the events; then reads a record and a
+ * Format 2 list. Exit status 1: not as expected. */
 #include "ngt1.h"
 #include <stdio.h>
 #include <string.h>
@@ -87,6 +88,37 @@ static void refusals(void)
     expect(ngt1_push(0, 0, out, sizeof out, 0x10, a, 6) == 1 && a[0] == 0 && a[2] == NGT1_NO_ROOM, "buffer too short");
 }
 
+/* a record of PGN 126983 from 33 to everyone, with a byte after its data */
+static void records(void)
+{
+    static const uint8_t payload[] = { 2, 0x07, 0xF0, 0x01, 255, 33, 1, 2, 0, 0, 2, 0xAA, 0xBB, 0xCC };
+    static const uint64_t want[] = { 0, 513, 2, 126983, 33, 255, 11, 2 };
+    uint64_t a[NGT1_RECORD_ANSWER] = { 9, 9, 9, 9, 9, 9, 9, 9 };
+    expect(ngt1_record(0x93, payload, sizeof payload, a, 7) == 0 && a[0] == 9, "answer of seven places");
+    expect(ngt1_record(0x93, payload, sizeof payload, a, 8) == 1 && memcmp(a, want, sizeof want) == 0, "record");
+    expect(ngt1_record(0xA0, payload, sizeof payload, a, 8) == 1 && a[0] == NGT1_NO_RECORD && a[6] == 0, "refusal 9");
+    expect(ngt1_record(0x93, payload, 10, a, 8) == 1 && a[0] == NGT1_TOO_SHORT, "refusal 8");
+    expect(ngt1_record(0x93, payload, 12, a, 8) == 1 && a[0] == NGT1_DATA_PAST && a[7] == 0, "refusal 10");
+}
+
+/* supported PGNs 126983 (index 7) and 126993 (index 9), of which 9 is enabled, and the proprietary PGN 65281 */
+static void lists(void)
+{
+    static const uint8_t supported[] = { 0, 0, 0x11, 0, 0, 0, 0, 2, 0, 2, 7, 0x07, 0xF0, 1, 9, 0x11, 0xF0, 1 };
+    static const uint8_t enabled[] = { 0, 2, 0x11, 0, 0, 1, 0, 1, 9, 6, 0, 0 };
+    static const uint8_t proprietary[] = { 0, 3, 0x11, 0, 0, 1, 2, 0 };
+    static uint32_t out[NGT1_MAX_LISTED];
+    ngt1_parts parts = ngt1_parts_new();
+    ngt1_listed l;
+    parts = ngt1_parts_supported(parts, supported, sizeof supported);
+    parts = ngt1_parts_enabled(parts, enabled, sizeof enabled);
+    expect(ngt1_parts_pgns(parts, out, NGT1_MAX_LISTED).number == NGT1_PARTIAL, "two parts of three");
+    parts = ngt1_parts_enabled(parts, proprietary, sizeof proprietary);
+    expect(ngt1_parts_pgns(parts, out, NGT1_MAX_LISTED - 1).number == NGT1_NO_ROOM && out[0] == 0, "room of 766");
+    l = ngt1_parts_pgns(parts, out, NGT1_MAX_LISTED);
+    expect(l.number == 0 && l.count == 2 && out[0] == 126993 && out[1] == 65281 && out[2] == 0, "Format 2 list");
+}
+
 int main(void)
 {
     static const uint8_t want[] = { 0x10, 0x02, 0xA1, 0x01, 0x41, 0x1D, 0x10, 0x03 };
@@ -107,5 +139,7 @@ int main(void)
     expect_event(1, NGT1_BAD_CHECKSUM, 0, 0);
     push_all(stream, sizeof stream);
     refusals();
+    records();
+    lists();
     return failed;
 }

@@ -1,16 +1,18 @@
 /*
- * NGT-1 framing: messages into frames, bytes into events. Links with libngt1.a.
+ * NGT-1 framing (messages into frames, bytes into events), N2K records and Format 2 lists. Links with libngt1.a.
  *
  * One convention for every function:
  *   - A slice is a pointer and a length in elements. The pointer is not NULL and has as many elements as the length says,
  *     and a slice that a function may write overlaps no other slice of the call.
  *   - Results go into the first places of `answer`. Where `answer` has fewer places than the function needs, nothing at all
  *     is done, no lent byte changes, and 0 is returned; else 1 is returned. Places after those named keep their contents.
- *   - No function keeps anything between calls: a decoder is a phase, a count and a buffer, which the caller keeps.
+ *   - No function keeps anything between calls: a decoder is a phase, a count and a buffer, which the caller keeps, and the
+ *     parts of a Format 2 read are a value that goes in and comes back.
  */
 #ifndef NGT1_H
 #define NGT1_H
 
+#include <stdbool.h>
 #include <stddef.h>
 #include <stdint.h>
 
@@ -22,11 +24,15 @@ extern "C" {
 #define NGT1_ENCODE_ANSWER 3
 #define NGT1_FEED_ANSWER 6
 #define NGT1_PUSH_ANSWER 5
+#define NGT1_RECORD_ANSWER 8
 
 /* Limits, in bytes. */
 #define NGT1_MAX_PAYLOAD 255 /* of a message */
 #define NGT1_MAX_FRAME 520   /* no frame is longer */
 #define NGT1_BUFFER 1024     /* a decoder's buffer, at least */
+
+/* Limit, in PGNs. */
+#define NGT1_MAX_LISTED 767 /* no Format 2 list is longer */
 
 /* Phases of a decoder. A new decoder has phase NGT1_IDLE and count 0. */
 #define NGT1_IDLE 0
@@ -45,8 +51,14 @@ extern "C" {
 
 /* Refusals. They change no state and no lent byte. */
 #define NGT1_OVER_LIMIT 6  /* encode: the payload is over 255 bytes */
-#define NGT1_NO_ROOM 7     /* encode: out is under the frame's length; decoder: the buffer is under 1024 bytes */
-#define NGT1_NOT_FORMED 16 /* decoder: the count is over 1024, or the phase over 3 */
+#define NGT1_NO_ROOM 7     /* encode: out is under the frame's length; decoder: the buffer is under 1024 bytes; list: out is under 767 */
+#define NGT1_TOO_SHORT 8   /* record: the payload is under 11 bytes */
+#define NGT1_NO_RECORD 9   /* record: the command is not 93 */
+#define NGT1_DATA_PAST 10  /* record: the data pass the payload's end */
+#define NGT1_NOT_FORMED 16 /* decoder: the count is over 1024, or the phase over 3; list: the proprietary count is over 512 */
+
+/* What there is of a Format 2 list, beside 0 and the refusals. */
+#define NGT1_PARTIAL 101 /* not all three parts are in hand */
 
 /*
  * Wraps a message in a frame at the start of out; bytes of out after the frame are kept.
@@ -83,6 +95,75 @@ uint64_t ngt1_feed(uint8_t phase, size_t count, uint8_t *buf, size_t buf_len, co
  */
 uint64_t ngt1_push(uint8_t phase, size_t count, uint8_t *buf, size_t buf_len, uint8_t b, uint64_t *answer,
                    size_t answer_len);
+
+/*
+ * Reads the payload of a message 93, an N2K frame off the bus.
+ *   answer[0]  0, or the refusal's number (9, then 8, then 10), with zeros after it
+ *   answer[1]  timestamp, the gateway's, in milliseconds
+ *   answer[2]  priority
+ *   answer[3]  PGN
+ *   answer[4]  source
+ *   answer[5]  destination
+ *   answer[6]  where the data start in the payload: 11
+ *   answer[7]  how many bytes they are; they lie inside the payload, whose bytes after them are ignored
+ */
+uint64_t ngt1_record(uint8_t command, const uint8_t *payload, size_t payload_len, uint64_t *answer, size_t answer_len);
+
+/* The parts of a Format 2 read: a value that goes in and comes back. Start from ngt1_parts_new, and write none of the fields. */
+typedef struct {
+    bool filled;
+    uint8_t index;
+    uint32_t pgn;
+} ngt1_supported_entry;
+
+typedef struct {
+    bool sized;
+    uint8_t size;
+    ngt1_supported_entry entries[255];
+} ngt1_supported_parts;
+
+typedef struct {
+    bool filled;
+    uint8_t index;
+} ngt1_enabled_entry;
+
+typedef struct {
+    bool sized;
+    uint8_t size;
+    ngt1_enabled_entry entries[255];
+} ngt1_enabled_parts;
+
+typedef struct {
+    uint32_t pgns[512];
+    size_t n;
+} ngt1_list_512;
+
+typedef struct {
+    bool told;
+    ngt1_list_512 list;
+} ngt1_proprietary;
+
+typedef struct {
+    ngt1_supported_parts supported;
+    ngt1_enabled_parts enabled;
+    ngt1_proprietary proprietary;
+} ngt1_parts;
+
+/* No part yet. */
+ngt1_parts ngt1_parts_new(void);
+
+/* Takes in the data of a reply 40, or 4F: what stands after the reply's 12 bytes of header. Other data change nothing. */
+ngt1_parts ngt1_parts_supported(ngt1_parts parts, const uint8_t *data, size_t data_len);
+ngt1_parts ngt1_parts_enabled(ngt1_parts parts, const uint8_t *data, size_t data_len);
+
+/* number: 0, NGT1_PARTIAL, or a refusal (16, then 7); count: how many PGNs the list has, 0 where number is not 0. */
+typedef struct {
+    uint64_t number;
+    uint64_t count;
+} ngt1_listed;
+
+/* Writes the PGNs of the list at the start of out, once all three parts are in hand; what stands after them is kept. */
+ngt1_listed ngt1_parts_pgns(ngt1_parts parts, uint32_t *out, size_t out_len);
 
 #ifdef __cplusplus
 }

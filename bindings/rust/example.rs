@@ -1,6 +1,7 @@
-//! Encodes A1 41, feeds the frame and a damaged copy of it in two pieces, and prints the events. Exit status 1: not as expected.
+//! Encodes A1 41, feeds the frame and a damaged copy of it in two pieces, and prints the events; then reads a record and a Format 2
+//! list. Exit status 1: not as expected.
 mod ngt1;
-use ngt1::{encode, Decoder, Event, Written, MAX_FRAME};
+use ngt1::{encode, record, Decoder, Event, Parts, Record, Written, MAX_FRAME, MAX_LISTED};
 use std::process::ExitCode;
 
 /// Feeds all bytes, prints each event and adds it, with its payload, to `events`.
@@ -32,6 +33,20 @@ fn push(bytes: &[u8]) -> Vec<(Event, Vec<u8>)> {
     events
 }
 
+/// Supported PGNs 126983 (index 7) and 126993 (index 9), of which 9 is enabled, and the proprietary PGN 65281.
+fn listed() -> Vec<u32> {
+    let mut parts = Parts::new();
+    let mut out = [0u32; MAX_LISTED];
+    parts.supported(&[0, 0, 0x11, 0, 0, 0, 0, 2, 0, 2, 7, 0x07, 0xF0, 1, 9, 0x11, 0xF0, 1]);
+    parts.enabled(&[0, 2, 0x11, 0, 0, 1, 0, 1, 9, 6, 0, 0]);
+    if parts.pgns(&mut out).is_some() {
+        return Vec::new();
+    }
+    parts.enabled(&[0, 3, 0x11, 0, 0, 1, 2, 0]);
+    let count = parts.pgns(&mut out).unwrap_or(0);
+    out[..count].to_vec()
+}
+
 fn main() -> ExitCode {
     let want = [0x10, 0x02, 0xA1, 0x01, 0x41, 0x1D, 0x10, 0x03];
     let mut failed = false;
@@ -58,5 +73,13 @@ fn main() -> ExitCode {
     let message = Event::Message { command: 0xA1, len: 1 };
     expect(events == [(message, vec![0x41]), (Event::BadChecksum, vec![])], "events");
     expect(push(&stream) == events, "push and feed agree");
+
+    let payload = [2, 0x07, 0xF0, 0x01, 255, 33, 1, 2, 0, 0, 2, 0xAA, 0xBB, 0xCC];
+    let want = Record { timestamp: 513, prio: 2, pgn: 126983, src: 33, dst: 255, data: &[0xAA, 0xBB] };
+    expect(record(0x93, &payload) == Ok(want), "record");
+    expect(record(0xA0, &payload) == Err(9), "refusal 9");
+    expect(record(0x93, &payload[..10]) == Err(8), "refusal 8");
+    expect(record(0x93, &payload[..12]) == Err(10), "refusal 10");
+    expect(listed() == [126993, 65281], "Format 2 list");
     ExitCode::from(failed as u8)
 }

@@ -156,6 +156,31 @@ pub fn make(v: View) -> TxListSync {
     }
 }
 
+/// The Format 1 list so far is empty again; its memory is kept.
+pub fn clear_list(s: &mut TxListSync) {
+    if let State::Reading { have, .. } = &mut s.state {
+        have.clear();
+    }
+}
+
+/// A Format 2 read by itself.
+#[derive(Default)]
+pub struct F2(F2List);
+
+impl F2 {
+    pub fn add_supported(&mut self, data: &[u8]) {
+        self.0.add_supported(data);
+    }
+
+    pub fn add_enabled(&mut self, data: &[u8]) {
+        self.0.add_enabled(data);
+    }
+
+    pub fn pgns(&self) -> Option<Vec<u32>> {
+        self.0.pgns()
+    }
+}
+
 // The commands of module 4 that canboat writes in this file.
 pub fn enable(pgn: u32) -> Vec<u8> {
     enable_command(pgn)

@@ -14,4 +14,4 @@ mod canboat {
     include!(concat!(env!("OUT_DIR"), "/canboat.rs"));
 }
 // canboat's files name themselves `crate::engine`.
-use canboat::engine;
+pub use canboat::engine;

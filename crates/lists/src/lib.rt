@@ -47,6 +47,7 @@ const SV_PROP_TX_ENABLE_LIST: u32 = 0x1103;
 const MAP_BYTES: usize = 32;
 
 // A place of the supported list: the index byte and the PGN of an entry, once filled.
+#[repr(C)]
 pub struct SupportedEntry {
     pub filled: bool,
     pub index: u8,
@@ -54,6 +55,7 @@ pub struct SupportedEntry {
 }
 
 // The supported list: whether a part gave its size, the size, and the places.
+#[repr(C)]
 pub struct SupportedParts {
     pub sized: bool,
     pub size: u8,
@@ -61,29 +63,34 @@ pub struct SupportedParts {
 }
 
 // A place of the enabled list: an index into the supported list, once filled.
+#[repr(C)]
 pub struct EnabledEntry {
     pub filled: bool,
     pub index: u8,
 }
 
+#[repr(C)]
 pub struct EnabledParts {
     pub sized: bool,
     pub size: u8,
     pub entries: [EnabledEntry; 255],
 }
 
+#[repr(C)]
 pub struct List512 {
     pub pgns: [u32; 512],
     pub n: usize,
 }
 
 // The proprietary list, once told.
+#[repr(C)]
 pub struct Proprietary {
     pub told: bool,
     pub list: List512,
 }
 
 // The parts of a Format 2 read.
+#[repr(C)]
 pub struct F2List {
     pub supported: SupportedParts,
     pub enabled: EnabledParts,
