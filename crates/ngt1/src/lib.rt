@@ -12,6 +12,7 @@ ghost use lib.Seq.{sets};
 mod frames; // frames.rt: framing
 mod frame_records; // frame_records.rt: N2K records
 mod parts; // parts.rt: Format 2 lists
+mod start_up; // start_up.rt: the start-up session
 
 // Writes the numbers into the first places of an answer that has as many, and returns 1.
 fn give(answer: &mut [u64], numbers: &[u64]) -> u64

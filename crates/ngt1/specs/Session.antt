@@ -1,0 +1,148 @@
+-- The session in the caller's memory, as numbers and arrays (Lent of the crate session). Assumes nothing.
+use Prim.Native.Nat.{ℕ, _%_}
+use mathlib.Core.Bool.{Bool, true, false, not}
+use mathlib.Core.List.{List, [], _∷_}
+use lib.Dec.{eqb, ltb}
+use lib.ListN.{length, getD}
+use Rattle.field.specs.Pick.{pick}
+use Rattle.lists.specs.declared.F2List.{F2List}
+use Rattle.tx_list.specs.declared.State.{State}
+use Rattle.tx_list.specs.declared.State.the-variants.{AwaitStartup, ReadAt, ReadingF2, Reading as ReadingF1, Enabling, Committing, Activating, Done}
+use Rattle.session.specs.declared.TxListSync.{TxListSync}
+use Rattle.session.specs.declared.Begun.{Begun}
+use Rattle.session.specs.declared.Numbers.{Numbers}
+use Rattle.tx_list.specs.Reading.{message}
+use Rattle.tx_list.specs.Session.{silent, fromWhole, fromPart}
+use Rattle.session.specs.Sync.{Told, called, Said, says, refused}
+use Rattle.session.specs.Lent.{Arrays, syncOf, readsF2, ignoredAt}
+use Rattle.ngt1.specs.declared.start_up.Answer.{Answer}
+use Rattle.ngt1.specs.declared.start_up.PartAnswer.{PartAnswer}
+
+abbrev pub isSet : ℕ → Bool
+isSet n = not (eqb n 0)
+
+abbrev pub one : Bool → ℕ
+one true = 1
+one false = 0
+
+-- the phases, numbered from 0; the functions ask only for numbers up to 7
+abbrev pub stateOf : ℕ → ℕ → State
+stateOf p n =
+    pick (eqb p 0) AwaitStartup
+    (pick (eqb p 1) ReadAt
+    (pick (eqb p 2) (ReadingF1 n)
+    (pick (eqb p 3) (ReadingF2 n) (pick (eqb p 4) Enabling (pick (eqb p 5) Committing (pick (eqb p 6) Activating Done))))))
+
+abbrev pub phaseOf : State → ℕ
+phaseOf AwaitStartup = 0
+phaseOf ReadAt = 1
+phaseOf (ReadingF1 n) = 2
+phaseOf (ReadingF2 n) = 3
+phaseOf Enabling = 4
+phaseOf Committing = 5
+phaseOf Activating = 6
+phaseOf Done = 7
+
+abbrev pub attemptOf : State → ℕ
+attemptOf AwaitStartup = 0
+attemptOf ReadAt = 0
+attemptOf (ReadingF1 n) = n
+attemptOf (ReadingF2 n) = n
+attemptOf Enabling = 0
+attemptOf Committing = 0
+attemptOf Activating = 0
+attemptOf Done = 0
+
+-- THE LAYOUT of the 17 numbers
+abbrev pub numbersIn : List ℕ → Numbers
+numbersIn n =
+    record {
+      state = stateOf (getD n 0 0) (getD n 1 0 % 4294967296);
+      totals =
+          record {
+            counts =
+                record {
+                  wanted = getD n 2 0;
+                  owed = getD n 3 0;
+                  fresh = getD n 4 0;
+                  list = getD n 5 0;
+                  proprietary = getD n 6 0;
+                  known = getD n 7 0;
+                  saved = getD n 8 0;
+                  present = getD n 9 0;
+                  refused = getD n 10 0;
+                };
+            deadline = getD n 11 0;
+            read = isSet (getD n 12 0);
+            complete = isSet (getD n 13 0);
+            told = isSet (getD n 14 0);
+            version = getD n 15 0 % 65536;
+            blank = isSet (getD n 16 0);
+          };
+    }
+
+abbrev pub numbersAs : Numbers → List ℕ
+numbersAs x =
+    phaseOf (x .state)
+    ∷ attemptOf (x .state)
+    ∷ x .totals .counts .wanted
+    ∷ x .totals .counts .owed
+    ∷ x .totals .counts .fresh
+    ∷ x .totals .counts .list
+    ∷ x .totals .counts .proprietary
+    ∷ x .totals .counts .known
+    ∷ x .totals .counts .saved
+    ∷ x .totals .counts .present
+    ∷ x .totals .counts .refused
+    ∷ x .totals .deadline
+    ∷ one (x .totals .read)
+    ∷ one (x .totals .complete)
+    ∷ one (x .totals .told)
+    ∷ x .totals .version
+    ∷ one (x .totals .blank)
+    ∷ []
+
+-- what a call leaves in the caller's memory
+abbrev pub toldOn : Answer → List ℕ → Arrays → List ℕ → Told
+toldOn r n a out = record { number = r .number; count = r .count; sync = syncOf (numbersIn n) a; out = out }
+
+-- a phase over 7: 16, and nothing changes; else what the session's own function gives
+unfoldable pub answers : List ℕ → Arrays → List ℕ → (TxListSync → Told) → Told
+answers n a out go =
+    pick (ltb 7 (getD n 0 0)) (record { number = 16; count = 0; sync = syncOf (numbersIn n) a; out = out }) (go (syncOf (numbersIn n) a))
+
+abbrev pub hears : List ℕ → Arrays → ℕ → List ℕ → List ℕ → Told
+hears n a t m out =
+    answers n a out
+    (λ s.
+    pick (readsF2 (s .state)) (record { number = 100; count = 0; sync = s; out = out }) (called s (message t m (length out)) out))
+
+abbrev pub toldPartOn : PartAnswer → List ℕ → (F2List → Arrays) → List ℕ → Told
+toldPartOn r n a out = record { number = r .number; count = r .count; sync = syncOf (numbersIn n) (a (r .parts)); out = out }
+
+abbrev pub hearsPart : List ℕ → Arrays → ℕ → List ℕ → List ℕ → Told
+hearsPart n a t m out =
+    answers n a out
+    (λ s.
+    pick (readsF2 (s .state)) (called s (message t m (length out)) out) (record { number = 100; count = 0; sync = s; out = out }))
+
+-- a message would be taken and change nothing
+unfoldable pub ignoresOn : List ℕ → ℕ → List ℕ → ℕ → Bool
+ignoresOn n t m room = pick (ltb 7 (getD n 0 0)) false (ignoredAt (numbersIn n) t m room)
+
+-- begin, restart, setting firmware, abandoning
+abbrev pub renewedOn : ℕ → List ℕ → Arrays → Begun
+renewedOn r n a = record { number = r; sync = syncOf (numbersIn n) a }
+
+unfoldable pub renews : List ℕ → Arrays → Begun → Begun
+renews n a b = pick (ltb 7 (getD n 0 0)) (record { number = 16; sync = syncOf (numbersIn n) a }) b
+
+-- what is said of a PGN
+abbrev pub lackNumber : Said → ℕ
+lackNumber (says silent) = 0
+lackNumber (says fromWhole) = 1
+lackNumber (says fromPart) = 2
+lackNumber (refused k) = k
+
+unfoldable pub asks : List ℕ → ℕ → ℕ
+asks n k = pick (ltb 7 (getD n 0 0)) 16 k

@@ -1,0 +1,387 @@
+// The start-up session in the caller's memory: 17 numbers, eight arrays of PGNs, and the parts of a Format 2 read.
+// A call changes in place what it changes; it copies no array. A phase over 7 is none: refusal 16, and nothing is done.
+// The numbers: 0 phase (0 awaits the start-up's answer, 1 waits to read, 2 reads Format 1, 3 reads Format 2, 4 enables, 5 commits,
+// 6 activates, 7 done); 1 attempt (modulo 2^32); how many there are: 2 wanted, 3 owed, 4 fresh, 5 of the list being read,
+// 6 proprietary, 7 known, 8 saved, 9 present, 10 refused; 11 due time; 12 a list is known (not 0), 13 and whole; 14 the firmware
+// was told, 15 its version (modulo 2^16); 16 no part of Format 2 is in hand.
+use super::give;
+use bounds::Counts;
+use lists::F2List;
+use session::Lacks;
+use session::Numbers;
+use session::Renewed;
+use session::Totals;
+use tx_list::State;
+ghost use mathlib.Core.Path.{_≡_};
+ghost use mathlib.Core.List.{List};
+ghost use Prim.Native.Nat.{ℕ, _%_, _<_};
+ghost use lib.ListN.{length};
+ghost use Rattle.tx_list.specs.Reading as model;
+ghost use Rattle.session.specs.Sync.{called, setTo, restarted, abandoned, lackOf, toldLacks};
+ghost use Rattle.session.specs.Lent.{Arrays, Fits, lent, syncOf, begunIn};
+ghost use Rattle.ngt1.specs.Session.{isSet, one, stateOf, phaseOf, attemptOf, numbersIn, toldOn, toldPartOn, answers, hears, hearsPart, ignoresOn, renewedOn, renews, lackNumber, asks};
+
+// What a call answers: 0 or the refusal's number, and how many bytes were written.
+#[repr(C)]
+pub struct Answer {
+    pub number: u64,
+    pub count: u64,
+}
+
+// The same with the parts of Format 2.
+#[repr(C)]
+pub struct PartAnswer {
+    pub number: u64,
+    pub count: u64,
+    pub parts: F2List,
+}
+
+fn size(x: u64) -> usize
+    ensures { λ r. ⌜ r ≡ x ⌝ }
+{
+    x as usize
+}
+
+fn is_set(x: u64) -> bool
+    ensures { λ r. ⌜ r ≡ isSet x ⌝ }
+{
+    x != 0
+}
+
+fn low32(x: u64) -> u32
+    ensures { λ r. ⌜ r ≡ x % 4294967296 ⌝ }
+{
+    (x % 4294967296) as u32
+}
+
+fn low16(x: u64) -> u16
+    ensures { λ r. ⌜ r ≡ x % 65536 ⌝ }
+{
+    (x % 65536) as u16
+}
+
+fn state_of(phase: u64, attempt: u32) -> State
+    ensures { λ r. ⌜ r ≡ stateOf phase attempt ⌝ }
+{
+    match phase {
+        0 => State::AwaitStartup,
+        1 => State::ReadAt,
+        2 => State::Reading(attempt),
+        3 => State::ReadingF2(attempt),
+        4 => State::Enabling,
+        5 => State::Committing,
+        6 => State::Activating,
+        _ => State::Done,
+    }
+}
+
+fn counts_of(n: &[u64; 17]) -> Counts
+    ensures { λ r. ⌜ r ≡ numbersIn (now (n .entry)) .totals .counts ⌝ }
+{
+    Counts {
+        wanted: size(n[2]),
+        owed: size(n[3]),
+        fresh: size(n[4]),
+        list: size(n[5]),
+        proprietary: size(n[6]),
+        known: size(n[7]),
+        saved: size(n[8]),
+        present: size(n[9]),
+        refused: size(n[10]),
+    }
+}
+
+fn numbers_of(n: &[u64; 17]) -> Numbers
+    ensures { λ r. ⌜ r ≡ numbersIn (now (n .entry)) ⌝ }
+{
+    let counts = counts_of(n);
+    let totals = Totals {
+        counts,
+        deadline: n[11],
+        read: is_set(n[12]),
+        complete: is_set(n[13]),
+        told: is_set(n[14]),
+        version: low16(n[15]),
+        blank: is_set(n[16]),
+    };
+    let state = state_of(n[0], low32(n[1]));
+    Numbers { state, totals }
+}
+
+fn one_if(b: bool) -> u64
+    ensures { λ r. ⌜ r ≡ one b ⌝ }
+{
+    if b { 1 } else { 0 }
+}
+
+fn phase_of(st: State) -> u64
+    ensures { λ r. ⌜ r ≡ phaseOf st ⌝ }
+{
+    match st {
+        State::AwaitStartup => 0,
+        State::ReadAt => 1,
+        State::Reading(_) => 2,
+        State::ReadingF2(_) => 3,
+        State::Enabling => 4,
+        State::Committing => 5,
+        State::Activating => 6,
+        State::Done => 7,
+    }
+}
+
+fn attempt_of(st: State) -> u64
+    ensures { λ r. ⌜ (r ≡ attemptOf st) × (r < 4294967296) ⌝ }
+{
+    match st {
+        State::Reading(n) => n as u64,
+        State::ReadingF2(n) => n as u64,
+        State::AwaitStartup => 0,
+        State::ReadAt => 0,
+        State::Enabling => 0,
+        State::Committing => 0,
+        State::Activating => 0,
+        State::Done => 0,
+    }
+}
+
+fn store(n: &mut [u64; 17], x: Numbers)
+    ensures { λ r. ⌜ numbersIn (now (n .exit)) ≡ x ⌝ }
+{
+    let st = x.state;
+    let t = x.totals;
+    let c = t.counts;
+    give(
+        n,
+        &[
+            phase_of(st),
+            attempt_of(st),
+            c.wanted as u64,
+            c.owed as u64,
+            c.fresh as u64,
+            c.list as u64,
+            c.proprietary as u64,
+            c.known as u64,
+            c.saved as u64,
+            c.present as u64,
+            c.refused as u64,
+            t.deadline,
+            one_if(t.read),
+            one_if(t.complete),
+            one_if(t.told),
+            t.version as u64,
+            one_if(t.blank),
+        ],
+    );
+}
+
+// The passing of time. Refuses with 16, 13, 7.
+#[no_mangle]
+pub extern "C" fn ngt1_session_tick(n: &mut [u64; 17], time: u64, out: &mut [u8]) -> Answer
+    ensures { λ r. ⌜ ((a : Arrays) → Fits a → toldOn r (now (n .exit)) a (now (out .exit)) ≡ answers (now (n .entry)) a (now (out .entry)) (λ s. called s (model.tick time (length (now (out .entry)))) (now (out .entry)))) ⌝ }
+{
+    if 7 < n[0] {
+        return Answer {
+            number: 16,
+            count: 0,
+        };
+    }
+    let x = numbers_of(n);
+    if x.is_idle(time, out.len()) {
+        return Answer {
+            number: 0,
+            count: 0,
+        };
+    }
+    let r = x.tick(time, out);
+    store(n, r.numbers);
+    Answer {
+        number: r.number as u64,
+        count: r.count as u64,
+    }
+}
+
+// Whether a message would be taken and change nothing.
+#[no_mangle]
+pub extern "C" fn ngt1_session_ignores(
+    n: &[u64; 17],
+    time: u64,
+    payload: &[u8],
+    room: usize,
+) -> bool
+    ensures { λ r. ⌜ r ≡ ignoresOn (now (n .entry)) time (now (payload .entry)) room ⌝ }
+{
+    if 7 < n[0] {
+        return false;
+    }
+    numbers_of(n).ignores(time, payload, room)
+}
+
+// A message of the gateway at a time. While Format 2 is read it answers 100 and does nothing: such a message is for the function below.
+// Refuses with 16, 13, 6, 7, 14.
+#[no_mangle]
+pub extern "C" fn ngt1_session_message(
+    n: &mut [u64; 17],
+    wanted: &mut [u32; 64],
+    owed: &mut [u32; 64],
+    fresh: &mut [u32; 64],
+    list: &mut [u32; 1024],
+    known: &mut [u32; 1344],
+    saved: &mut [u32; 256],
+    present: &mut [u32; 256],
+    refused: &mut [u32; 256],
+    time: u64,
+    payload: &[u8],
+    out: &mut [u8],
+) -> Answer
+    ensures { λ r. ⌜ ((f : F2List) → Fits (lent (now (wanted .entry)) (now (owed .entry)) (now (fresh .entry)) (now (list .entry)) (now (known .entry)) (now (saved .entry)) (now (present .entry)) (now (refused .entry)) f) → toldOn r (now (n .exit)) (lent (now (wanted .exit)) (now (owed .exit)) (now (fresh .exit)) (now (list .exit)) (now (known .exit)) (now (saved .exit)) (now (present .exit)) (now (refused .exit)) f) (now (out .exit)) ≡ hears (now (n .entry)) (lent (now (wanted .entry)) (now (owed .entry)) (now (fresh .entry)) (now (list .entry)) (now (known .entry)) (now (saved .entry)) (now (present .entry)) (now (refused .entry)) f) time (now (payload .entry)) (now (out .entry))) ⌝ }
+{
+    if 7 < n[0] {
+        return Answer {
+            number: 16,
+            count: 0,
+        };
+    }
+    let x = numbers_of(n);
+    let r = x.message(
+        wanted,
+        owed,
+        fresh,
+        list,
+        known,
+        saved,
+        present,
+        refused,
+        time,
+        payload,
+        out,
+    );
+    store(n, r.numbers);
+    Answer {
+        number: r.number as u64,
+        count: r.count as u64,
+    }
+}
+
+// A message of the gateway while Format 2 is read; in any other phase it answers 100 and does nothing. Refuses with 16, 13, 6, 7.
+#[no_mangle]
+pub extern "C" fn ngt1_session_part(
+    n: &mut [u64; 17],
+    parts: F2List,
+    wanted: &mut [u32; 64],
+    owed: &mut [u32; 64],
+    known: &mut [u32; 1344],
+    present: &mut [u32; 256],
+    refused: &mut [u32; 256],
+    time: u64,
+    payload: &[u8],
+    out: &mut [u8],
+) -> PartAnswer
+    ensures { λ r. ⌜ ((fresh list saved : List ℕ) → Fits (lent (now (wanted .entry)) (now (owed .entry)) fresh list (now (known .entry)) saved (now (present .entry)) (now (refused .entry)) parts) → toldPartOn r (now (n .exit)) (lent (now (wanted .exit)) (now (owed .exit)) fresh list (now (known .exit)) saved (now (present .exit)) (now (refused .exit))) (now (out .exit)) ≡ hearsPart (now (n .entry)) (lent (now (wanted .entry)) (now (owed .entry)) fresh list (now (known .entry)) saved (now (present .entry)) (now (refused .entry)) parts) time (now (payload .entry)) (now (out .entry))) ⌝ }
+{
+    if 7 < n[0] {
+        return PartAnswer {
+            number: 16,
+            count: 0,
+            parts,
+        };
+    }
+    let x = numbers_of(n);
+    let r = x.part(
+        parts,
+        wanted,
+        owed,
+        known,
+        present,
+        refused,
+        time,
+        payload,
+        out,
+    );
+    store(n, r.numbers);
+    let after = r.f2;
+    PartAnswer {
+        number: r.number as u64,
+        count: r.count as u64,
+        parts: after,
+    }
+}
+
+// Stores the numbers of a session that was renewed; answers 0 or the refusal's number.
+fn keep(n: &mut [u64; 17], r: Renewed) -> u64
+    ensures { λ k. ⌜ (k ≡ r .number) × (numbersIn (now (n .exit)) ≡ r .numbers) ⌝ }
+{
+    store(n, r.numbers);
+    r.number as u64
+}
+
+// A session that wants these PGNs. The record's lists stay where they stand, with the counts that the numbers give; nothing else of the
+// numbers counts. Answers 0, or 16 for a phase over 7, 11, 12.
+#[no_mangle]
+pub extern "C" fn ngt1_session_begin(n: &mut [u64; 17], wanted: &mut [u32; 64], want: &[u32]) -> u64
+    ensures { λ r. ⌜ ((o u l k s p q : List ℕ) (f : F2List) → renewedOn r (now (n .exit)) (lent (now (wanted .exit)) o u l k s p q f) ≡ renews (now (n .entry)) (lent (now (wanted .entry)) o u l k s p q f) (begunIn (numbersIn (now (n .entry))) (now (want .entry)) (lent (now (wanted .entry)) o u l k s p q f))) ⌝ }
+{
+    if 7 < n[0] {
+        return 16;
+    }
+    let x = numbers_of(n);
+    keep(n, x.begin(want, wanted))
+}
+
+// The session from its start: wanted and record are kept. Answers 0, or 16, 12.
+#[no_mangle]
+pub extern "C" fn ngt1_session_restart(n: &mut [u64; 17]) -> u64
+    ensures { λ r. ⌜ ((a : Arrays) → Fits a → renewedOn r (now (n .exit)) a ≡ renews (now (n .entry)) a (restarted (syncOf (numbersIn (now (n .entry))) a))) ⌝ }
+{
+    if 7 < n[0] {
+        return 16;
+    }
+    let x = numbers_of(n);
+    keep(n, x.restart())
+}
+
+// The gateway's firmware version times 1000, from its product information. Answers 0, or 16.
+#[no_mangle]
+pub extern "C" fn ngt1_session_firmware(n: &mut [u64; 17], version: u16) -> u64
+    ensures { λ r. ⌜ ((a : Arrays) → Fits a → renewedOn r (now (n .exit)) a ≡ renews (now (n .entry)) a (setTo (syncOf (numbersIn (now (n .entry))) a) version)) ⌝ }
+{
+    if 7 < n[0] {
+        return 16;
+    }
+    let x = numbers_of(n);
+    keep(n, x.set_firmware(version))
+}
+
+// The gateway has no list to set: the session is done and no list is known. Answers 0, or 16.
+#[no_mangle]
+pub extern "C" fn ngt1_session_abandon(n: &mut [u64; 17]) -> u64
+    ensures { λ r. ⌜ ((a : Arrays) → Fits a → renewedOn r (now (n .exit)) a ≡ renews (now (n .entry)) a (abandoned (syncOf (numbersIn (now (n .entry))) a))) ⌝ }
+{
+    if 7 < n[0] {
+        return 16;
+    }
+    let x = numbers_of(n);
+    keep(n, x.abandon())
+}
+
+fn lack_number(l: Lacks) -> u64
+    ensures { λ r. ⌜ r ≡ lackNumber (toldLacks l) ⌝ }
+{
+    match l {
+        Lacks::Nothing => 0,
+        Lacks::Whole => 1,
+        Lacks::Partial => 2,
+        Lacks::Refused(number) => number as u64,
+    }
+}
+
+// What is said of a PGN: 0 nothing, 1 that it lacks from a whole list, 2 from a partial one, or the refusal 16.
+#[no_mangle]
+pub extern "C" fn ngt1_session_lacks(n: &[u64; 17], known: &[u32; 1344], pgn: u32) -> u64
+    ensures { λ r. ⌜ ((w o u l s p q : List ℕ) (f : F2List) → Fits (lent w o u l (now (known .entry)) s p q f) → r ≡ asks (now (n .entry)) (lackNumber (lackOf (syncOf (numbersIn (now (n .entry))) (lent w o u l (now (known .entry)) s p q f)) pgn))) ⌝ }
+{
+    if 7 < n[0] {
+        return 16;
+    }
+    let l = numbers_of(n).lacks(known, pgn);
+    lack_number(l)
+}
