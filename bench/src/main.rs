@@ -8,11 +8,8 @@ mod lists;
 #[rustfmt::skip]
 #[path = "../../bindings/rust/ngt1.rs"]
 mod ngt1;
-#[cfg(session)]
-mod port_session;
 mod race;
 mod records;
-#[cfg(session)]
 mod session;
 
 /// Ends the run where the two sides differ.
@@ -35,13 +32,7 @@ fn main() {
     let mut r = Rng(7);
     framing::rows(&mut r);
     records::rows(&mut r);
-    #[cfg(session)]
     session::f1("f1-message");
     lists::rows(&mut r);
-    #[cfg(session)]
     session::rows();
-    #[cfg(not(session))]
-    println!(
-        "# The library has no session yet: f1-message, session-tick, session-message, session-whole and lacks are left out."
-    );
 }

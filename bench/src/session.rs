@@ -1,5 +1,5 @@
 //! Rows f1-message, session-* and lacks.
-use crate::port_session::{LIST, Session};
+use crate::ngt1::{Lacks, Session};
 use crate::race::{Side, row, timed};
 use crate::same;
 use oracle::engine::codec::ngt1_tx_list::{TxListSync, access};
@@ -53,23 +53,27 @@ impl StartUp {
     }
 
     fn port(&self, s: &mut Session, out: &mut [u8], mut sent: impl FnMut(&[u8])) {
-        let mut told = |count: Result<usize, u64>, out: &[u8]| sent(&out[..count.unwrap_or(0)]);
-        s.begin(&self.wanted);
-        told(s.message(&self.mode, 1, out), out);
+        let mut told = |count: Result<usize, u8>, out: &[u8]| sent(&out[..count.unwrap_or(0)]);
+        let _ = s.begin_afresh(&self.wanted);
+        told(s.message(1, &self.mode, out), out);
         told(s.tick(2_001, out), out);
         for m in &self.messages {
-            told(s.message(m, 2_002, out), out);
+            told(s.message(2_002, m, out), out);
         }
     }
+}
+
+/// A session of the port, with nothing learnt.
+fn begun(want: &[u32]) -> Session {
+    Session::begin(want).unwrap_or_else(|number| panic!("begin is refused with {number}"))
 }
 
 /// A session of each side that waits for the list, and one that reads it.
 fn waiting(up: &StartUp) -> (TxListSync, Session) {
     let mut rust = TxListSync::new(vec![1], access::record(vec![], vec![], vec![]));
-    let mut port = Session::blank();
-    same("begin", &0, &port.begin(&[1]));
+    let mut port = begun(&[1]);
     same("begin", &0, &rust.on_message(&up.mode, 0).len());
-    same("begin", &Ok(0), &port.message(&up.mode, 0, &mut [0; 32]));
+    same("begin", &Ok(0), &port.message(0, &up.mode, &mut [0; 32]));
     (rust, port)
 }
 
@@ -87,7 +91,7 @@ pub fn f1(name: &str) {
     let part = &up.messages[0][..];
     let mut out = [0; 32];
     same(name, &0, &rust.on_message(part, 2_001).len());
-    same(name, &Ok(0), &port.message(part, 2_001, &mut out));
+    same(name, &Ok(0), &port.message(2_001, part, &mut out));
     same(name, &access::view(&rust).list[..], port.list());
     same(name, &60, &port.list().len());
     let turns = 5_000;
@@ -102,8 +106,8 @@ pub fn f1(name: &str) {
     let port: Side = Box::new(|| {
         timed(|| {
             for _ in 0..turns {
-                port.n[LIST] = 0;
-                black_box(&port.message(black_box(part), black_box(2_001), &mut out));
+                port.empty_list();
+                black_box(&port.message(black_box(2_001), black_box(part), &mut out));
             }
         })
     });
@@ -140,10 +144,10 @@ fn message(name: &str, up: &StartUp) {
     let (mut rust, mut port) = waiting(up);
     let other = &reply(0x41, 1, &[0; 6])[..];
     let mut out = [0; 32];
-    let before = (access::view(&rust), port.n);
+    let before = (access::view(&rust), port.known().len());
     same(name, &0, &rust.on_message(other, 5).len());
-    same(name, &Ok(0), &port.message(other, 5, &mut out));
-    same(name, &before, &(access::view(&rust), port.n));
+    same(name, &Ok(0), &port.message(5, other, &mut out));
+    same(name, &before, &(access::view(&rust), port.known().len()));
     let turns = 20_000;
     let rust: Side = Box::new(|| {
         timed(|| {
@@ -155,7 +159,7 @@ fn message(name: &str, up: &StartUp) {
     let port: Side = Box::new(|| {
         timed(|| {
             for _ in 0..turns {
-                black_box(&port.message(black_box(other), black_box(5), &mut out));
+                black_box(&port.message(black_box(5), black_box(other), &mut out));
             }
         })
     });
@@ -163,7 +167,7 @@ fn message(name: &str, up: &StartUp) {
 }
 
 fn whole(name: &str, up: &StartUp) {
-    let mut port = Session::blank();
+    let mut port = begun(&[]);
     let mut out = [0; 32];
     let mut wanted = Vec::new();
     let mut got = Vec::new();
@@ -206,21 +210,20 @@ fn whole(name: &str, up: &StartUp) {
 fn lacks(name: &str, up: &StartUp) {
     let list = list();
     let mut rust = TxListSync::new(vec![], access::record(vec![], vec![], vec![]));
-    let mut port = Session::blank();
+    let mut port = begun(&[]);
     let mut out = [0; 32];
-    same(name, &0, &port.begin(&[]));
     rust.on_message(&up.mode, 1);
-    let _ = port.message(&up.mode, 1, &mut out);
+    let _ = port.message(1, &up.mode, &mut out);
     rust.on_tick(2_001);
     let _ = port.tick(2_001, &mut out);
     for m in &up.messages[..TELLS] {
         rust.on_message(m, 2_002);
-        let _ = port.message(m, 2_002, &mut out);
+        let _ = port.message(2_002, m, &mut out);
     }
     same(name, &list[..], port.known());
-    let number = |says: Option<bool>| says.map_or(0, |complete| if complete { 1 } else { 2 });
+    let told = |says: Option<bool>| says.map_or(Lacks::Nothing, |complete| if complete { Lacks::Whole } else { Lacks::Partial });
     for pgn in [126_983, 60_000, 60_001, list[1019]] {
-        same(name, &number(rust.lacks(pgn)), &port.lacks(pgn));
+        same(name, &Ok(told(rust.lacks(pgn))), &port.lacks(pgn));
     }
     let turns = 2_000;
     let rust: Side = Box::new(|| {

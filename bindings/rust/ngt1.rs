@@ -1,4 +1,4 @@
-//! NGT-1 framing, N2K records and Format 2 lists. Links with `libngt1.a`; `bindings/c/ngt1.h` says what the functions do.
+//! NGT-1 framing, N2K records, Format 2 lists and the start-up session. Links with `libngt1.a`; `bindings/c/ngt1.h` says what the functions do.
 #![allow(dead_code)]
 
 unsafe extern "C" {
@@ -41,6 +41,49 @@ unsafe extern "C" {
     fn ngt1_parts_supported(parts: F2List, data: *const u8, data_len: usize) -> F2List;
     fn ngt1_parts_enabled(parts: F2List, data: *const u8, data_len: usize) -> F2List;
     fn ngt1_parts_pgns(parts: F2List, out: *mut u32, out_len: usize) -> Listed;
+    fn ngt1_session_begin(n: *mut [u64; 17], wanted: *mut [u32; 64], want: *const u32, want_len: usize) -> u64;
+    fn ngt1_session_restart(n: *mut [u64; 17]) -> u64;
+    fn ngt1_session_firmware(n: *mut [u64; 17], version: u16) -> u64;
+    fn ngt1_session_abandon(n: *mut [u64; 17]) -> u64;
+    fn ngt1_session_tick(n: *mut [u64; 17], time: u64, out: *mut u8, out_len: usize) -> Answer;
+    fn ngt1_session_ignores(
+        n: *const [u64; 17],
+        time: u64,
+        payload: *const u8,
+        payload_len: usize,
+        room: usize,
+    ) -> bool;
+    fn ngt1_session_message(
+        n: *mut [u64; 17],
+        wanted: *mut [u32; 64],
+        owed: *mut [u32; 64],
+        fresh: *mut [u32; 64],
+        list: *mut [u32; 1024],
+        known: *mut [u32; 1344],
+        saved: *mut [u32; 256],
+        present: *mut [u32; 256],
+        refused: *mut [u32; 256],
+        time: u64,
+        payload: *const u8,
+        payload_len: usize,
+        out: *mut u8,
+        out_len: usize,
+    ) -> Answer;
+    fn ngt1_session_part(
+        n: *mut [u64; 17],
+        parts: F2List,
+        wanted: *mut [u32; 64],
+        owed: *mut [u32; 64],
+        known: *mut [u32; 1344],
+        present: *mut [u32; 256],
+        refused: *mut [u32; 256],
+        time: u64,
+        payload: *const u8,
+        payload_len: usize,
+        out: *mut u8,
+        out_len: usize,
+    ) -> PartAnswer;
+    fn ngt1_session_lacks(n: *const [u64; 17], known: *const [u32; 1344], pgn: u32) -> u64;
 }
 
 pub const MAX_PAYLOAD: usize = 255;
@@ -266,5 +309,212 @@ impl Parts {
     pub fn pgns(&self, out: &mut [u32; MAX_LISTED]) -> Option<usize> {
         let listed = unsafe { ngt1_parts_pgns(self.0, out.as_mut_ptr(), out.len()) };
         (listed.number == 0).then_some(listed.count as usize)
+    }
+}
+
+#[repr(C)]
+struct Answer {
+    number: u64,
+    count: u64,
+}
+
+#[repr(C)]
+struct PartAnswer {
+    number: u64,
+    count: u64,
+    parts: F2List,
+}
+
+/// What a session's call answers: how many bytes there are to send, at the start of its output; or the refusal's number.
+pub type Sent = Result<usize, u8>;
+
+fn sent(number: u64, count: u64) -> Sent {
+    match number {
+        0 => Ok(count as usize),
+        number => Err(number as u8),
+    }
+}
+
+fn done(number: u64) -> Result<(), u8> {
+    match number {
+        0 => Ok(()),
+        number => Err(number as u8),
+    }
+}
+
+/// What the gateway's list says of a PGN that it lacks.
+#[derive(Clone, Copy, Debug, PartialEq, Eq)]
+pub enum Lacks {
+    /// It is on the list, or no list is known.
+    Nothing,
+    /// It is not on the list, which was read whole (Format 2).
+    Whole,
+    /// It is not on the list, which may have missed it (Format 1).
+    Partial,
+}
+
+/// No call writes more.
+pub const MAX_SENT: usize = 32;
+
+/// A start-up session: has the gateway transmit the PGNs that are wanted. Times are milliseconds of a clock that is not set back.
+/// A call changes the session where it stands. Refusals change nothing: 16 a state that is not well formed, 13 a time over
+/// 18446744073709541615, 6 a message over 255 bytes, 7 an output under 32, 14 a Format 1 list that would pass 1,024.
+pub struct Session {
+    numbers: [u64; 17],
+    wanted: [u32; 64],
+    owed: [u32; 64],
+    fresh: [u32; 64],
+    list: [u32; 1024],
+    known: [u32; 1344],
+    saved: [u32; 256],
+    present: [u32; 256],
+    refused: [u32; 256],
+    parts: F2List,
+}
+
+// Places of the numbers.
+const PHASE: usize = 0;
+const LIST: usize = 5;
+const KNOWN: usize = 7;
+const SAVED: usize = 8;
+const PRESENT: usize = 9;
+const REFUSED: usize = 10;
+
+/// Phases.
+const READING_F2: u64 = 3;
+const DONE: u64 = 7;
+
+impl Session {
+    /// A session that wants these PGNs and has learnt nothing. Refusal: 11, over 64 are wanted.
+    pub fn begin(want: &[u32]) -> Result<Session, u8> {
+        let mut session = Session {
+            numbers: [0; 17],
+            wanted: [0; 64],
+            owed: [0; 64],
+            fresh: [0; 64],
+            list: [0; 1024],
+            known: [0; 1344],
+            saved: [0; 256],
+            present: [0; 256],
+            refused: [0; 256],
+            parts: unsafe { ngt1_parts_new() },
+        };
+        session.begin_again(want).map(|()| session)
+    }
+
+    /// A new session in the same memory, which keeps what the last one learnt. Refusals: 11, over 64 are wanted; 12, a list of the
+    /// record is over 192. The old session stands then.
+    pub fn begin_again(&mut self, want: &[u32]) -> Result<(), u8> {
+        done(unsafe { ngt1_session_begin(&mut self.numbers, &mut self.wanted, want.as_ptr(), want.len()) })
+    }
+
+    /// A new session in the same memory, which has learnt nothing. Refusal: 11; the session then wants nothing.
+    pub fn begin_afresh(&mut self, want: &[u32]) -> Result<(), u8> {
+        self.numbers = [0; 17];
+        self.begin_again(want)
+    }
+
+    /// The session from its start, as after a restart of the gateway: what is wanted and learnt is kept. Refusals: 16, 12.
+    pub fn restart(&mut self) -> Result<(), u8> {
+        done(unsafe { ngt1_session_restart(&mut self.numbers) })
+    }
+
+    /// The gateway's firmware version times 1000, from its product information. Refusal: 16.
+    pub fn set_firmware(&mut self, version: u16) -> Result<(), u8> {
+        done(unsafe { ngt1_session_firmware(&mut self.numbers, version) })
+    }
+
+    /// The gateway has no list to set. Refusal: 16.
+    pub fn abandon(&mut self) -> Result<(), u8> {
+        done(unsafe { ngt1_session_abandon(&mut self.numbers) })
+    }
+
+    /// The passing of time.
+    pub fn tick(&mut self, time: u64, out: &mut [u8]) -> Sent {
+        let a = unsafe { ngt1_session_tick(&mut self.numbers, time, out.as_mut_ptr(), out.len()) };
+        sent(a.number, a.count)
+    }
+
+    /// The payload of a message A0 of the gateway.
+    pub fn message(&mut self, time: u64, payload: &[u8], out: &mut [u8]) -> Sent {
+        unsafe {
+            if ngt1_session_ignores(&self.numbers, time, payload.as_ptr(), payload.len(), out.len()) {
+                return Ok(0);
+            }
+            if self.numbers[PHASE] == READING_F2 {
+                let a = ngt1_session_part(
+                    &mut self.numbers,
+                    self.parts,
+                    &mut self.wanted,
+                    &mut self.owed,
+                    &mut self.known,
+                    &mut self.present,
+                    &mut self.refused,
+                    time,
+                    payload.as_ptr(),
+                    payload.len(),
+                    out.as_mut_ptr(),
+                    out.len(),
+                );
+                self.parts = a.parts;
+                return sent(a.number, a.count);
+            }
+            let a = ngt1_session_message(
+                &mut self.numbers,
+                &mut self.wanted,
+                &mut self.owed,
+                &mut self.fresh,
+                &mut self.list,
+                &mut self.known,
+                &mut self.saved,
+                &mut self.present,
+                &mut self.refused,
+                time,
+                payload.as_ptr(),
+                payload.len(),
+                out.as_mut_ptr(),
+                out.len(),
+            );
+            sent(a.number, a.count)
+        }
+    }
+
+    /// Whether the session has ended.
+    pub fn is_done(&self) -> bool {
+        self.numbers[PHASE] == DONE
+    }
+
+    /// Whether the gateway's list, once read, lacks the PGN, so that it would drop a frame of it. Refusal: 16.
+    pub fn lacks(&self, pgn: u32) -> Result<Lacks, u8> {
+        match unsafe { ngt1_session_lacks(&self.numbers, &self.known, pgn) } {
+            0 => Ok(Lacks::Nothing),
+            1 => Ok(Lacks::Whole),
+            2 => Ok(Lacks::Partial),
+            number => Err(number as u8),
+        }
+    }
+
+    fn held<'a>(&self, list: &'a [u32], place: usize) -> &'a [u32] {
+        list.get(..self.numbers[place] as usize).unwrap_or(list)
+    }
+
+    /// The Format 1 list as far as it was read.
+    pub fn list(&self) -> &[u32] {
+        self.held(&self.list, LIST)
+    }
+
+    /// Forgets the Format 1 list as far as it was read.
+    pub fn empty_list(&mut self) {
+        self.numbers[LIST] = 0;
+    }
+
+    /// The gateway's list, with what was enabled since; empty where none is known.
+    pub fn known(&self) -> &[u32] {
+        self.held(&self.known, KNOWN)
+    }
+
+    /// What the gateway confirmed: saved, already there, refused.
+    pub fn record(&self) -> [&[u32]; 3] {
+        [self.held(&self.saved, SAVED), self.held(&self.present, PRESENT), self.held(&self.refused, REFUSED)]
     }
 }
