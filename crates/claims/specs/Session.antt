@@ -4,8 +4,10 @@
 -- equate each answer with the definitions that these statements are about. Assumes nothing.
 use Rattle.session.specs.Played.{Played, Demand3, Taken}
 use Rattle.session.specs.StartUp.{StartUp, StartedUp}
+use Rattle.session.specs.LentPlayed.{InLentMemory}
 use Rattle.session.proofs.Demand3 as proved
 use Rattle.session.proofs.StartUp as lives
+use Rattle.session.proofs.LentDemand as lent
 use Rattle.session.proofs.Tilt.{wanted, nothing, newer, older, newer-tilts, older-tilts}
 use Rattle.session.specs.declared.TxListSync.{TxListSync}
 use Rattle.session.specs.Sync.{kind, begunWith}
@@ -25,6 +27,10 @@ openings = proved.taken-openings
 -- says nothing of it, and everything newly enabled saved
 pub start-up : StartUp
 start-up = lives.start-up
+
+-- both from a begin in lent memory too, of the session that numbers and arrays hold
+pub in-lent-memory : InLentMemory
+in-lent-memory = lent.in-lent-memory
 
 -- the seat's reminder, PGN 126983, with a gateway of firmware 2.690 (Format 2) and with one whose firmware is not known (Format 1)
 pub tilt-2690 : (last : TxListSync) (bytes : List ℕ) → Played (begunWith wanted nothing .sync) (startUp kind wanted nothing newer) last bytes

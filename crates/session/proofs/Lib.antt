@@ -5,3 +5,4 @@ pub mod Tilt
 pub mod CallLaws
 pub mod HeardLaws
 pub mod LentCalls
+pub mod LentDemand

@@ -231,7 +231,7 @@ waitsIn Done = false
 unfoldable pub dueAt : Numbers → ℕ → Bool
 dueAt x t = leb (x .totals .deadline) t && waitsIn (x .state)
 
--- a message is of interest in the phase: no other one changes anything (LentLaws)
+-- a message is of interest in the phase: no other one changes anything (proofs/LentCalls)
 unfoldable pub mindsIn : State → List ℕ → Bool
 mindsIn AwaitStartup m = isMode m
 mindsIn ReadAt m = false

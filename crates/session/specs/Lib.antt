@@ -12,3 +12,4 @@ pub mod OpeningLaws
 pub mod ReadingLaws
 pub mod LentReading
 pub mod LentBegin
+pub mod LentPlayed

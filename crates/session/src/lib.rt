@@ -1,5 +1,6 @@
 // The transmit-list session (document 01, module 6): reads the gateway's transmit list and has it transmit what is wanted.
-// A session is a value that goes in and comes back; commands go into a lent output of 32 bytes or more, end to end.
+// A session is a value that goes in and comes back (`TxListSync`), or its numbers, with its arrays lent one by one (`Numbers`, in_place.rt);
+// commands go into a lent output of 32 bytes or more, end to end. The first form takes the struct apart and calls the second.
 // Stands on lists (Format 2), views (what a message says), pgns, commands and framing; specs/Sync ties it to the model of tx_list.
 // Numbers: 6 message over 255 bytes, 7 output under 32, 11 over 64 wanted, 12 a record list over 192, 13 tick over the limit,
 // 14 Format 1 list over 1,024, 16 state not well formed. A refusal changes nothing.
