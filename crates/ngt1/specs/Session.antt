@@ -1,8 +1,8 @@
 -- The session in the caller's memory, as numbers and arrays (Lent of the crate session). Assumes nothing.
 use Prim.Native.Nat.{ℕ, _%_}
-use mathlib.Core.Bool.{Bool, true, false, not}
+use mathlib.Core.Bool.{Bool, true, false, not, _&&_}
 use mathlib.Core.List.{List, [], _∷_}
-use lib.Dec.{eqb, ltb}
+use lib.Dec.{eqb, leb, ltb}
 use lib.ListN.{length, getD}
 use Rattle.field.specs.Pick.{pick}
 use Rattle.lists.specs.declared.F2List.{F2List}
@@ -14,7 +14,7 @@ use Rattle.session.specs.declared.Numbers.{Numbers}
 use Rattle.tx_list.specs.Reading.{message}
 use Rattle.tx_list.specs.Session.{silent, fromWhole, fromPart}
 use Rattle.session.specs.Sync.{Told, called, Said, says, refused}
-use Rattle.session.specs.Lent.{Arrays, syncOf, readsF2, ignoredAt}
+use Rattle.session.specs.Lent.{Arrays, syncOf, readsF2, mindsIn}
 use Rattle.ngt1.specs.declared.start_up.Answer.{Answer}
 use Rattle.ngt1.specs.declared.start_up.PartAnswer.{PartAnswer}
 
@@ -126,9 +126,26 @@ hearsPart n a t m out =
     (λ s.
     pick (readsF2 (s .state)) (called s (message t m (length out)) out) (record { number = 100; count = 0; sync = s; out = out }))
 
--- a message would be taken and change nothing
+-- bounds that suit every phase but enabling: SessionLaws shows that such a session is well formed
+unfoldable pub calm : List ℕ → Bool
+calm n =
+    leb (getD n 0 0) 7
+    && (not (eqb (getD n 0 0) 4)
+    && (leb (getD n 2 0) 64
+    && (leb (getD n 3 0) 64
+    && (leb (getD n 4 0) 64
+    && (leb (getD n 5 0) 1024
+    && (leb (getD n 6 0) 512
+    && (leb (getD n 7 0) 1344 && (leb (getD n 8 0) 192 && (leb (getD n 9 0) 192 && leb (getD n 10 0) 192)))))))))
+
+-- a tick does something
+abbrev pub dueIn : ℕ → ℕ → ℕ → Bool
+dueIn p deadline t = leb deadline t && (not (eqb p 0) && ltb p 7)
+
+-- a message would be taken and change nothing, told by one look
 unfoldable pub ignoresOn : List ℕ → ℕ → List ℕ → ℕ → Bool
-ignoresOn n t m room = pick (ltb 7 (getD n 0 0)) false (ignoredAt (numbersIn n) t m room)
+ignoresOn n t m room =
+    calm n && (leb t 18446744073709541615 && (leb (length m) 255 && (leb 32 room && not (mindsIn (stateOf (getD n 0 0) 0) m))))
 
 -- begin, restart, setting firmware, abandoning
 abbrev pub renewedOn : ℕ → List ℕ → Arrays → Begun

@@ -1,10 +1,16 @@
 -- Laws of the session in the caller's memory. Assumes nothing.
-use Prim.Native.Nat.{ℕ, _%_, _≤_, _<_}
+use Prim.Native.Nat.{ℕ, zero, suc, _+_, _%_, _≤_, _<_}
 use native.Mathlib.Omega.{arith}
 use mathlib.Core.Path.{_≡_, refl, sym, ap, _∙_}
-use mathlib.Core.Bool.{Bool, true, false}
+use mathlib.Core.Bool.{Bool, true, false, not, _&&_}
 use mathlib.Core.List.{List, [], _∷_, _++_, append-nil}
-use borrow.Author.Tests.{lt-ltb, le-ltb}
+use borrow.Author.Tests.{lt-ltb, le-ltb, le-leb, leb-true, eq-eqb}
+use lib.Dec.{eqb, leb, ltb}
+use Rattle.field.specs.Pick.{pick}
+use Rattle.field.specs.Tests.{left-true, right-true}
+use Rattle.bounds.specs.declared.Counts.{Counts}
+use Rattle.bounds.specs.Bounds.{countsFit, oldFits, soundAt}
+use Rattle.tx_list.proofs.LiveLists.{false-true}
 use lib.ListN.{length, getD, drop}
 use lib.Seq.{sets, drop-length}
 use Rattle.field.specs.Written.{written}
@@ -14,9 +20,12 @@ use Rattle.tx_list.specs.declared.State.the-variants.{AwaitStartup, ReadAt, Rea
 use Rattle.session.specs.declared.TxListSync.{TxListSync}
 use Rattle.session.specs.declared.Begun.{Begun}
 use Rattle.session.specs.declared.Numbers.{Numbers}
-use Rattle.session.specs.Sync.{Told}
-use Rattle.session.specs.Lent.{Arrays, syncOf}
-use Rattle.ngt1.specs.Session.{isSet, one, stateOf, phaseOf, attemptOf, numbersIn, numbersAs, answers, renews, asks}
+use Rattle.tx_list.specs.Reading.{tick, message}
+use Rattle.session.specs.Sync.{Told, called}
+use Rattle.session.proofs.LentCalls.{idle-quiet, ignored-quiet}
+use Rattle.session.specs.Sound.{helm}
+use Rattle.session.specs.Lent.{Arrays, Fits, syncOf, uncounted, soundFor, waitsIn, dueAt, mindsIn, idleAt, ignoredAt}
+use Rattle.ngt1.specs.Session.{isSet, one, calm, dueIn, ignoresOn, stateOf, phaseOf, attemptOf, numbersIn, numbersAs, answers, renews, asks}
 
 -- a list as long as the one it is written over takes its place
 sets-all-of : (new old : List ℕ) → length old ≡ length new → sets old 0 new ≡ new
@@ -150,3 +159,168 @@ none-asks n k h = rw (lt-ltb 7 (getD n 0 0) h)
 pub did-ask : (n : List ℕ) {k l : ℕ} → getD n 0 0 ≤ 7 → k ≡ l → k ≡ asks n l
 unfolding asks
 did-ask n h e = rw (le-ltb 7 (getD n 0 0) h) e
+
+-- one look tells: a session whose numbers are calm is well formed
+
+by-phase : (P : ℕ → Type 0) → P 0 → P 1 → P 2 → P 3 → P 5 → P 6 → P 7 → (p : ℕ) → p ≤ 7 → (p ≡ 4 → ⊥) → P p
+by-phase P a b c d e f g zero h z = a
+by-phase P a b c d e f g (suc zero) h z = b
+by-phase P a b c d e f g (suc (suc zero)) h z = c
+by-phase P a b c d e f g (suc (suc (suc zero))) h z = d
+by-phase P a b c d e f g (suc (suc (suc (suc zero)))) h z = absurd (z refl)
+by-phase P a b c d e f g (suc (suc (suc (suc (suc zero))))) h z = e
+by-phase P a b c d e f g (suc (suc (suc (suc (suc (suc zero)))))) h z = f
+by-phase P a b c d e f g (suc (suc (suc (suc (suc (suc (suc zero))))))) h z = g
+by-phase P a b c d e f g (suc (suc (suc (suc (suc (suc (suc (suc n)))))))) h z = absurd (omega arith)
+
+pub record Calm (n : List ℕ) : Type 0 where
+  pub phase : getD n 0 0 ≤ 7
+  pub other : getD n 0 0 ≡ 4 → ⊥
+  pub wanted : leb (getD n 2 0) 64 ≡ true
+  pub owed : leb (getD n 3 0) 64 ≡ true
+  pub fresh : leb (getD n 4 0) 64 ≡ true
+  pub list : leb (getD n 5 0) 1024 ≡ true
+  pub proprietary : leb (getD n 6 0) 512 ≡ true
+  pub known : leb (getD n 7 0) 1344 ≡ true
+  pub saved : leb (getD n 8 0) 192 ≡ true
+  pub present : leb (getD n 9 0) 192 ≡ true
+  pub refused : leb (getD n 10 0) 192 ≡ true
+
+-- the tests of calm from the k-th on
+abbrev from10 : List ℕ → Bool
+from10 n = leb (getD n 10 0) 192
+
+abbrev from9 : List ℕ → Bool
+from9 n = leb (getD n 9 0) 192 && from10 n
+
+abbrev from8 : List ℕ → Bool
+from8 n = leb (getD n 8 0) 192 && from9 n
+
+abbrev from7 : List ℕ → Bool
+from7 n = leb (getD n 7 0) 1344 && from8 n
+
+abbrev from6 : List ℕ → Bool
+from6 n = leb (getD n 6 0) 512 && from7 n
+
+abbrev from5 : List ℕ → Bool
+from5 n = leb (getD n 5 0) 1024 && from6 n
+
+abbrev from4 : List ℕ → Bool
+from4 n = leb (getD n 4 0) 64 && from5 n
+
+abbrev from3 : List ℕ → Bool
+from3 n = leb (getD n 3 0) 64 && from4 n
+
+abbrev from2 : List ℕ → Bool
+from2 n = leb (getD n 2 0) 64 && from3 n
+
+abbrev from1 : List ℕ → Bool
+from1 n = not (eqb (getD n 0 0) 4) && from2 n
+
+calm-parts : (n : List ℕ) → calm n ≡ true → Calm n
+unfolding calm
+calm-parts n e =
+    let e1 : from1 n ≡ true = right-true (leb (getD n 0 0) 7) (from1 n) e in
+    let e2 : from2 n ≡ true = right-true (not (eqb (getD n 0 0) 4)) (from2 n) e1 in
+    let e3 : from3 n ≡ true = right-true (leb (getD n 2 0) 64) (from3 n) e2 in
+    let e4 : from4 n ≡ true = right-true (leb (getD n 3 0) 64) (from4 n) e3 in
+    let e5 : from5 n ≡ true = right-true (leb (getD n 4 0) 64) (from5 n) e4 in
+    let e6 : from6 n ≡ true = right-true (leb (getD n 5 0) 1024) (from6 n) e5 in
+    let e7 : from7 n ≡ true = right-true (leb (getD n 6 0) 512) (from7 n) e6 in
+    let e8 : from8 n ≡ true = right-true (leb (getD n 7 0) 1344) (from8 n) e7 in
+    let e9 : from9 n ≡ true = right-true (leb (getD n 8 0) 192) (from9 n) e8 in
+    let e10 : from10 n ≡ true = right-true (leb (getD n 9 0) 192) (from10 n) e9 in
+    record {
+      phase = leb-true _ _ (left-true (leb (getD n 0 0) 7) (from1 n) e);
+      other = λ q. false-true (sym (ap not (eq-eqb (getD n 0 0) 4 q)) ∙ left-true (not (eqb (getD n 0 0) 4)) (from2 n) e1);
+      wanted = left-true (leb (getD n 2 0) 64) (from3 n) e2;
+      owed = left-true (leb (getD n 3 0) 64) (from4 n) e3;
+      fresh = left-true (leb (getD n 4 0) 64) (from5 n) e4;
+      list = left-true (leb (getD n 5 0) 1024) (from6 n) e5;
+      proprietary = left-true (leb (getD n 6 0) 512) (from7 n) e6;
+      known = left-true (leb (getD n 7 0) 1344) (from8 n) e7;
+      saved = left-true (leb (getD n 8 0) 192) (from9 n) e8;
+      present = left-true (leb (getD n 9 0) 192) (from10 n) e9;
+      refused = e10;
+    }
+
+module _ (n : List ℕ) (z : Calm n) where
+  abbrev counted : Counts
+  counted = numbersIn n .totals .counts
+
+  sums : leb (getD n 8 0 + getD n 4 0) 256 ≡ true
+  sums =
+      let a : getD n 8 0 ≤ 192 = leb-true _ _ (z .saved) in
+      let b : getD n 4 0 ≤ 64 = leb-true _ _ (z .fresh) in
+      le-leb (getD n 8 0 + getD n 4 0) 256 (omega arith)
+
+  wider : (k : ℕ) → leb k 192 ≡ true → leb k 256 ≡ true
+  wider k e = let h : k ≤ 192 = leb-true _ _ e in le-leb k 256 (omega arith)
+
+  fits : (b : Bool) → countsFit helm (pick b (uncounted counted) counted) ≡ true
+  fits true = rw (z .wanted, z .owed, z .fresh, z .list, z .known, wider _ (z .saved), wider _ (z .present), wider _ (z .refused))
+  fits false = rw (z .proprietary, z .wanted, z .owed, z .fresh, z .list, z .known, wider _ (z .saved), wider _ (z .present), wider _ (z .refused))
+
+  old : (b : Bool) → oldFits (pick b (uncounted counted) counted) ≡ true
+  old true = rw (z .saved, z .present, z .refused)
+  old false = rw (z .saved, z .present, z .refused)
+
+  saving : (b : Bool) → leb (pick b (uncounted counted) counted .saved + pick b (uncounted counted) counted .fresh) 256 ≡ true
+  saving true = sums
+  saving false = sums
+
+  at-phase : (b : Bool) (k p : ℕ) → p ≤ 7 → (p ≡ 4 → ⊥) → soundAt helm (pick b (uncounted counted) counted) (stateOf p k) ≡ true
+  at-phase b k =
+      by-phase (λ (p : ℕ). soundAt helm (pick b (uncounted counted) counted) (stateOf p k) ≡ true)
+      (rw (fits b, old b))
+      (rw (fits b, old b))
+      (rw (fits b, old b))
+      (rw (fits b, old b))
+      (rw (fits b, saving b))
+      (rw (fits b, saving b))
+      (rw (fits b))
+
+  calm-sound : soundFor (numbersIn n) ≡ true
+  unfolding soundFor
+  calm-sound = at-phase (isSet (getD n 16 0)) (getD n 1 0 % 4294967296) (getD n 0 0) (z .phase) (z .other)
+
+  same-due : (t : ℕ) → dueIn (getD n 0 0) (getD n 11 0) t ≡ dueAt (numbersIn n) t
+  unfolding dueAt
+  same-due t =
+      ap (λ (b : Bool). leb (getD n 11 0) t && b)
+      (by-phase (λ (p : ℕ). (not (eqb p 0) && ltb p 7) ≡ waitsIn (stateOf p (getD n 1 0 % 4294967296))) refl refl refl refl refl refl refl (getD n 0 0) (z .phase) (z .other))
+
+  same-mind : (m : List ℕ) → mindsIn (stateOf (getD n 0 0) 0) m ≡ mindsIn (stateOf (getD n 0 0) (getD n 1 0 % 4294967296)) m
+  unfolding mindsIn
+  same-mind m =
+      by-phase (λ (p : ℕ). mindsIn (stateOf p 0) m ≡ mindsIn (stateOf p (getD n 1 0 % 4294967296)) m) refl refl refl refl refl refl refl (getD n 0 0) (z .phase) (z .other)
+
+-- so a tick, a message is taken and does nothing
+looks-idle : (n : List ℕ) (t room : ℕ) → (calm n && (leb t 18446744073709541615 && (leb 32 room && not (dueIn (getD n 0 0) (getD n 11 0) t)))) ≡ true
+    → idleAt (numbersIn n) t room ≡ true
+unfolding idleAt
+looks-idle n t room e =
+    let f = leb t 18446744073709541615 && (leb 32 room && not (dueIn (getD n 0 0) (getD n 11 0) t)) in
+    let z = calm-parts n (left-true (calm n) f e) in
+    rw (calm-sound n z, ← same-due n z t) (right-true (calm n) f e)
+
+looks-ignored : (n : List ℕ) (t : ℕ) (m : List ℕ) (room : ℕ) → ignoresOn n t m room ≡ true → ignoredAt (numbersIn n) t m room ≡ true
+unfolding ignoresOn ignoredAt
+looks-ignored n t m room e =
+    let f = leb t 18446744073709541615 && (leb (length m) 255 && (leb 32 room && not (mindsIn (stateOf (getD n 0 0) 0) m))) in
+    let z = calm-parts n (left-true (calm n) f e) in
+    rw (calm-sound n z, ← same-mind n z m) (right-true (calm n) f e)
+
+-- what the caller is told, and that the session then stays as it is
+
+pub idle-answers : (n : List ℕ) (a : Arrays) (out : List ℕ) (t : ℕ) → Fits a
+    → (calm n && (leb t 18446744073709541615 && (leb 32 (length out) && not (dueIn (getD n 0 0) (getD n 11 0) t)))) ≡ true
+    → _≡_ {A = Told} (record { number = 0; count = 0; sync = syncOf (numbersIn n) a; out = out }) (answers n a out (λ s. called s (tick t (length out)) out))
+idle-answers n a out t z e =
+    let f = leb t 18446744073709541615 && (leb 32 (length out) && not (dueIn (getD n 0 0) (getD n 11 0) t)) in
+    did-answer n n (calm-parts n (left-true (calm n) f e) .phase) refl refl a a out out (λ s. called s (tick t (length out)) out)
+    (sym (idle-quiet (numbersIn n) a t (length out) out z (looks-idle n t (length out) e)))
+
+pub ignored-answers : (n : List ℕ) (a : Arrays) (out : List ℕ) (t : ℕ) (m : List ℕ) → Fits a → ignoresOn n t m (length out) ≡ true
+    → called (syncOf (numbersIn n) a) (message t m (length out)) out ≡ record { number = 0; count = 0; sync = syncOf (numbersIn n) a; out = out }
+ignored-answers n a out t m z e = ignored-quiet (numbersIn n) a t m (length out) out z (looks-ignored n t m (length out) e)

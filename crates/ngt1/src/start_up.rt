@@ -10,6 +10,7 @@ use lists::F2List;
 use session::Lacks;
 use session::Numbers;
 use session::Renewed;
+use session::TICK_LIMIT;
 use session::Totals;
 use tx_list::State;
 ghost use mathlib.Core.Path.{_≡_};
@@ -18,8 +19,8 @@ ghost use Prim.Native.Nat.{ℕ, _%_, _<_};
 ghost use lib.ListN.{length};
 ghost use Rattle.tx_list.specs.Reading as model;
 ghost use Rattle.session.specs.Sync.{called, setTo, restarted, abandoned, lackOf, toldLacks};
-ghost use Rattle.session.specs.Lent.{Arrays, Fits, lent, syncOf, begunIn};
-ghost use Rattle.ngt1.specs.Session.{isSet, one, stateOf, phaseOf, attemptOf, numbersIn, toldOn, toldPartOn, answers, hears, hearsPart, ignoresOn, renewedOn, renews, lackNumber, asks};
+ghost use Rattle.session.specs.Lent.{Arrays, Fits, lent, syncOf, begunIn, mindsIn};
+ghost use Rattle.ngt1.specs.Session.{isSet, one, calm, dueIn, stateOf, phaseOf, attemptOf, numbersIn, toldOn, toldPartOn, answers, hears, hearsPart, ignoresOn, renewedOn, renews, lackNumber, asks};
 
 // What a call answers: 0 or the refusal's number, and how many bytes were written.
 #[repr(C)]
@@ -174,9 +175,45 @@ fn store(n: &mut [u64; 17], x: Numbers)
     );
 }
 
-// The passing of time. Refuses with 16, 13, 7.
-#[no_mangle]
-pub extern "C" fn ngt1_session_tick(n: &mut [u64; 17], time: u64, out: &mut [u8]) -> Answer
+// Whether the numbers are within bounds that suit every phase but enabling: such a session is well formed, and one look tells.
+fn is_calm(n: &[u64; 17]) -> bool
+    ensures { λ r. ⌜ r ≡ calm (now (n .entry)) ⌝ }
+{
+    (n[0] <= 7)
+        & ((n[0] != 4)
+            & ((n[2] <= 64)
+                & ((n[3] <= 64)
+                    & ((n[4] <= 64)
+                        & ((n[5] <= 1024)
+                            & ((n[6] <= 512)
+                                & ((n[7] <= 1344)
+                                    & ((n[8] <= 192) & ((n[9] <= 192) & (n[10] <= 192))))))))))
+}
+
+// Whether a tick does something in this phase, at that time.
+fn is_due(phase: u64, deadline: u64, time: u64) -> bool
+    ensures { λ r. ⌜ r ≡ dueIn phase deadline time ⌝ }
+{
+    (deadline <= time) & ((phase != 0) & (phase < 7))
+}
+
+// Whether a message is of interest in this phase.
+fn minds(phase: u64, payload: &[u8]) -> bool
+    ensures { λ r. ⌜ r ≡ mindsIn (stateOf phase 0) (now (payload .entry)) ⌝ }
+{
+    match phase {
+        0 => views::is_mode(payload),
+        1 => false,
+        2 => views::starts(payload, 0x49),
+        3 => views::is_format2(payload),
+        4 => views::starts(payload, 0x47),
+        5 => views::starts(payload, 0x01),
+        6 => views::starts(payload, 0x4B),
+        _ => false,
+    }
+}
+
+fn tick_on(n: &mut [u64; 17], time: u64, out: &mut [u8]) -> Answer
     ensures { λ r. ⌜ ((a : Arrays) → Fits a → toldOn r (now (n .exit)) a (now (out .exit)) ≡ answers (now (n .entry)) a (now (out .entry)) (λ s. called s (model.tick time (length (now (out .entry)))) (now (out .entry)))) ⌝ }
 {
     if 7 < n[0] {
@@ -186,12 +223,6 @@ pub extern "C" fn ngt1_session_tick(n: &mut [u64; 17], time: u64, out: &mut [u8]
         };
     }
     let x = numbers_of(n);
-    if x.is_idle(time, out.len()) {
-        return Answer {
-            number: 0,
-            count: 0,
-        };
-    }
     let r = x.tick(time, out);
     store(n, r.numbers);
     Answer {
@@ -200,7 +231,23 @@ pub extern "C" fn ngt1_session_tick(n: &mut [u64; 17], time: u64, out: &mut [u8]
     }
 }
 
-// Whether a message would be taken and change nothing.
+// The passing of time. Refuses with 16, 13, 7.
+#[no_mangle]
+pub extern "C" fn ngt1_session_tick(n: &mut [u64; 17], time: u64, out: &mut [u8]) -> Answer
+    ensures { λ r. ⌜ ((a : Arrays) → Fits a → toldOn r (now (n .exit)) a (now (out .exit)) ≡ answers (now (n .entry)) a (now (out .entry)) (λ s. called s (model.tick time (length (now (out .entry)))) (now (out .entry)))) ⌝ }
+{
+    let due = is_due(n[0], n[11], time);
+    if is_calm(n) & ((time <= TICK_LIMIT) & ((32 <= out.len()) & !due)) {
+        return Answer {
+            number: 0,
+            count: 0,
+        };
+    }
+    tick_on(n, time, out)
+}
+
+// Whether a message would change nothing, told by one look at the numbers and the message: true where it surely would be taken and change
+// nothing. A false says nothing: give the message to the functions below.
 #[no_mangle]
 pub extern "C" fn ngt1_session_ignores(
     n: &[u64; 17],
@@ -210,10 +257,8 @@ pub extern "C" fn ngt1_session_ignores(
 ) -> bool
     ensures { λ r. ⌜ r ≡ ignoresOn (now (n .entry)) time (now (payload .entry)) room ⌝ }
 {
-    if 7 < n[0] {
-        return false;
-    }
-    numbers_of(n).ignores(time, payload, room)
+    let minded = minds(n[0], payload);
+    is_calm(n) & ((time <= TICK_LIMIT) & ((payload.len() <= 255) & ((32 <= room) & !minded)))
 }
 
 // A message of the gateway at a time. While Format 2 is read it answers 100 and does nothing: such a message is for the function below.

@@ -1,80 +1,55 @@
 -- `ngt1::start_up::ngt1_session_tick` meets its contract. Assumes nothing.
-use Prim.Native.Nat.{_≤_, _<_}
-use mathlib.Core.Path.{_≡_, sym, ap, _∙_}
+use mathlib.Core.Path.{_≡_, sym, _∙_}
+use mathlib.Core.Bool.{true, not, _&&_}
+use lib.Dec.{leb}
 use lib.ListN.{length, getD}
-use Rattle.tx_list.specs.Reading as model
-use Rattle.session.specs.declared.TxListSync.{TxListSync}
-use Rattle.session.specs.declared.Numbers.{Numbers}
-use Rattle.session.specs.Sync.{called}
-use Rattle.session.specs.Lent.{idleAt}
-use Rattle.session.proofs.LentCalls.{idle-quiet}
-use Rattle.ngt1.specs.SessionLaws.{none-answers, did-answer}
-use mathlib.Core.Path.{refl}
+use Rattle.ngt1.specs.Session.{calm, dueIn}
+use Rattle.ngt1.specs.SessionLaws.{idle-answers}
 use borrow.Author.Needs.{needs}
 use Rattle.ngt1.proofs.start_up.ngt1_session_tick.Statement.{statement}
 use Rattle.ngt1.proofs.start_up.ngt1_session_tick.Tie as tie
 
-element-copy-out-if1 : tie.Need-element-copy-out-if1
-element-copy-out-if1 c = search needs
+element-copy-out-is-due : tie.Need-element-copy-out-is-due
+element-copy-out-is-due c = search needs
+
+element-copy-out-is-due-2 : tie.Need-element-copy-out-is-due-2
+element-copy-out-is-due-2 c = search needs
+
+is-due-requires : tie.Need-is-due-requires
+is-due-requires c κs = search needs
+
+is-calm-requires : tie.Need-is-calm-requires
+is-calm-requires c κs = search needs
 
 returns : tie.Need-returns
 returns c =
-    let b = c .before .before .before in
-    λ a z. none-answers (b .args .n .now) a (c .if1 .taken) (b .args .out .now) _
-
-numbers-of-requires : tie.Need-numbers-of-requires
-numbers-of-requires c κs = search needs
-
-is-idle-requires : tie.Need-is-idle-requires
-is-idle-requires c κs = search needs
-
-returns-2 : tie.Need-returns-2
-returns-2 c =
-    let d = c .before in
-    let m = d .before in
-    let i = m .before .before in
-    let b = i .before .before .before in
+    let k = c .before in
+    let d = k .before .before in
+    let b = d .before .before .before .before in
     let n = b .args .n .now in
     let o = b .args .out .now in
-    λ a z.
-    did-answer n n (i .if1 .left) (m .numbers-of .ensures) (sym (m .numbers-of .ensures)) a a o o (λ (s : TxListSync). called s (model.tick (b .args .time) (length o)) o)
-    (sym (idle-quiet (m .numbers-of .result) a (b .args .time) (length o) o z (sym (d .is-idle .ensures) ∙ c .if2 .taken)))
+    let e : (calm n && (leb (b .args .time) 18446744073709541615 && (leb 32 (length o) && not (dueIn (getD n 0 0) (getD n 11 0) (b .args .time))))) ≡ true =
+    (λ i. sym (k .is-calm .ensures) i && (leb (b .args .time) 18446744073709541615 && (leb 32 (length o) && not (sym (d .is-due .ensures) i)))) ∙ c .if1 .taken in
+    λ a z. idle-answers n a o (b .args .time) z e
 
-tick-requires : tie.Need-tick-requires
-tick-requires c κs = search needs
-
-store-requires : tie.Need-store-requires
-store-requires c κs = search needs
-
-cast-t8 : tie.Need-cast-t8
-cast-t8 c = search needs
+tick-on-requires : tie.Need-tick-on-requires
+tick-on-requires c κs = search needs
 
 same-length : tie.Need-same-length
 same-length c = search needs
 
-returns-3 : tie.Need-returns-3
-returns-3 c =
-    let s = c .before in
-    let t = s .before .before .before .before in
-    let m = t .before .before .before .before in
-    let i = m .before .before in
-    let b = i .before .before .before in
-    let o = b .args .out .now in
-    λ a z.
-    did-answer (b .args .n .now) (s .store .last .0) (i .if1 .left) (m .numbers-of .ensures) (s .store .ensures) a a o (t .tick .last .1 .1 .0)
-    (λ (q : TxListSync). called q (model.tick (b .args .time) (length o)) o) (t .tick .ensures a z)
+returns-2 : tie.Need-returns-2
+returns-2 c = c .before .before .tick-on .ensures
 
 pub ngt1-session-tick-spec : {M : Type 1} → statement M
 ngt1-session-tick-spec =
     tie.close
     (tie.spec
-    element-copy-out-if1
+    element-copy-out-is-due
+    element-copy-out-is-due-2
+    is-due-requires
+    is-calm-requires
     returns
-    numbers-of-requires
-    is-idle-requires
-    returns-2
-    tick-requires
-    store-requires
-    cast-t8
+    tick-on-requires
     same-length
-    returns-3)
+    returns-2)
