@@ -296,13 +296,14 @@ module _ (n : List ℕ) (z : Calm n) where
       by-phase (λ (p : ℕ). mindsIn (stateOf p 0) m ≡ mindsIn (stateOf p (getD n 1 0 % 4294967296)) m) refl refl refl refl refl refl refl (getD n 0 0) (z .phase) (z .other)
 
 -- so a tick, a message is taken and does nothing
-looks-idle : (n : List ℕ) (t room : ℕ) → (calm n && (leb t 18446744073709541615 && (leb 32 room && not (dueIn (getD n 0 0) (getD n 11 0) t)))) ≡ true
+looks-idle : (n : List ℕ) (t room : ℕ) → (calm n && (leb t 18446744073709541615 && leb 32 room)) ≡ true → dueIn (getD n 0 0) (getD n 11 0) t ≡ false
     → idleAt (numbersIn n) t room ≡ true
 unfolding idleAt
-looks-idle n t room e =
-    let f = leb t 18446744073709541615 && (leb 32 room && not (dueIn (getD n 0 0) (getD n 11 0) t)) in
+looks-idle n t room e d =
+    let f = leb t 18446744073709541615 && leb 32 room in
     let z = calm-parts n (left-true (calm n) f e) in
-    rw (calm-sound n z, ← same-due n z t) (right-true (calm n) f e)
+    let g = right-true (calm n) f e in
+    rw (calm-sound n z, ← same-due n z t, d, left-true (leb t 18446744073709541615) (leb 32 room) g, right-true (leb t 18446744073709541615) (leb 32 room) g)
 
 looks-ignored : (n : List ℕ) (t : ℕ) (m : List ℕ) (room : ℕ) → ignoresOn n t m room ≡ true → ignoredAt (numbersIn n) t m room ≡ true
 unfolding ignoresOn ignoredAt
@@ -313,13 +314,13 @@ looks-ignored n t m room e =
 
 -- what the caller is told, and that the session then stays as it is
 
-pub idle-answers : (n : List ℕ) (a : Arrays) (out : List ℕ) (t : ℕ) → Fits a
-    → (calm n && (leb t 18446744073709541615 && (leb 32 (length out) && not (dueIn (getD n 0 0) (getD n 11 0) t)))) ≡ true
+pub idle-answers : (n : List ℕ) (a : Arrays) (out : List ℕ) (t : ℕ) → Fits a → (calm n && (leb t 18446744073709541615 && leb 32 (length out))) ≡ true
+    → dueIn (getD n 0 0) (getD n 11 0) t ≡ false
     → _≡_ {A = Told} (record { number = 0; count = 0; sync = syncOf (numbersIn n) a; out = out }) (answers n a out (λ s. called s (tick t (length out)) out))
-idle-answers n a out t z e =
-    let f = leb t 18446744073709541615 && (leb 32 (length out) && not (dueIn (getD n 0 0) (getD n 11 0) t)) in
+idle-answers n a out t z e d =
+    let f = leb t 18446744073709541615 && leb 32 (length out) in
     did-answer n n (calm-parts n (left-true (calm n) f e) .phase) refl refl a a out out (λ s. called s (tick t (length out)) out)
-    (sym (idle-quiet (numbersIn n) a t (length out) out z (looks-idle n t (length out) e)))
+    (sym (idle-quiet (numbersIn n) a t (length out) out z (looks-idle n t (length out) e d)))
 
 pub ignored-answers : (n : List ℕ) (a : Arrays) (out : List ℕ) (t : ℕ) (m : List ℕ) → Fits a → ignoresOn n t m (length out) ≡ true
     → called (syncOf (numbersIn n) a) (message t m (length out)) out ≡ record { number = 0; count = 0; sync = syncOf (numbersIn n) a; out = out }

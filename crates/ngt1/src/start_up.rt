@@ -236,8 +236,10 @@ fn tick_on(n: &mut [u64; 17], time: u64, out: &mut [u8]) -> Answer
 pub extern "C" fn ngt1_session_tick(n: &mut [u64; 17], time: u64, out: &mut [u8]) -> Answer
     ensures { λ r. ⌜ ((a : Arrays) → Fits a → toldOn r (now (n .exit)) a (now (out .exit)) ≡ answers (now (n .entry)) a (now (out .entry)) (λ s. called s (model.tick time (length (now (out .entry)))) (now (out .entry)))) ⌝ }
 {
-    let due = is_due(n[0], n[11], time);
-    if is_calm(n) & ((time <= TICK_LIMIT) & ((32 <= out.len()) & !due)) {
+    if is_due(n[0], n[11], time) {
+        return tick_on(n, time, out);
+    }
+    if is_calm(n) & ((time <= TICK_LIMIT) & (32 <= out.len())) {
         return Answer {
             number: 0,
             count: 0,
@@ -257,8 +259,19 @@ pub extern "C" fn ngt1_session_ignores(
 ) -> bool
     ensures { λ r. ⌜ r ≡ ignoresOn (now (n .entry)) time (now (payload .entry)) room ⌝ }
 {
-    let minded = minds(n[0], payload);
-    is_calm(n) & ((time <= TICK_LIMIT) & ((payload.len() <= 255) & ((32 <= room) & !minded)))
+    if !is_calm(n) {
+        return false;
+    }
+    if TICK_LIMIT < time {
+        return false;
+    }
+    if 255 < payload.len() {
+        return false;
+    }
+    if room < 32 {
+        return false;
+    }
+    !minds(n[0], payload)
 }
 
 // A message of the gateway at a time. While Format 2 is read it answers 100 and does nothing: such a message is for the function below.
