@@ -1,9 +1,12 @@
 -- The session in the caller's memory, as numbers and arrays (Lent of the crate session). Assumes nothing.
-use Prim.Native.Nat.{ℕ, _%_}
+use Prim.Native.Nat.{ℕ, _+_, _%_, _≤_}
+use mathlib.Core.Path.{_≡_}
 use mathlib.Core.Bool.{Bool, true, false, not, _&&_}
 use mathlib.Core.List.{List, [], _∷_}
 use lib.Dec.{eqb, leb, ltb}
-use lib.ListN.{length, getD}
+use lib.ListN.{length, getD, set}
+use lib.Seq.{sets}
+use Rattle.tx_list.specs.Views.{groupCount, pgnsAt}
 use Rattle.field.specs.Pick.{pick}
 use Rattle.lists.specs.declared.F2List.{F2List}
 use Rattle.tx_list.specs.declared.State.{State}
@@ -14,7 +17,7 @@ use Rattle.session.specs.declared.Numbers.{Numbers}
 use Rattle.tx_list.specs.Reading.{message}
 use Rattle.tx_list.specs.Session.{silent, fromWhole, fromPart}
 use Rattle.session.specs.Sync.{Told, called, Said, says, refused}
-use Rattle.session.specs.Lent.{Arrays, syncOf, readsF2, mindsIn}
+use Rattle.session.specs.Lent.{Arrays, Fits, lent, syncOf, readsF2, mindsIn}
 use Rattle.ngt1.specs.declared.start_up.Answer.{Answer}
 use Rattle.ngt1.specs.declared.start_up.PartAnswer.{PartAnswer}
 
@@ -163,3 +166,22 @@ lackNumber (refused k) = k
 
 unfoldable pub asks : List ℕ → ℕ → ℕ
 asks n k = pick (ltb 7 (getD n 0 0)) 16 k
+
+-- PGNs more of a Format 1 list: where they had room, the list, its count and the due time; else nothing
+abbrev pub addedOn : List ℕ → List ℕ → ℕ → List ℕ → Bool → List ℕ → List ℕ → Type 0
+addedOn n l t m true n′ l′ =
+    (getD n 5 0 + groupCount m ≤ 1024)
+    × (l′ ≡ sets l (getD n 5 0) (pgnsAt m 13 (groupCount m)))
+    × (n′ ≡ set (set n 5 (getD n 5 0 + groupCount m)) 11 (t + 10000))
+    × (length n ≡ 17)
+addedOn n l t m false n′ l′ = (n′ ≡ n) × (l′ ≡ l)
+
+-- where it is true, what is left is what the session's own function leaves, whatever stands in the other arrays; else nothing changes
+abbrev pub addsOn : List ℕ → List ℕ → ℕ → List ℕ → ℕ → Bool → List ℕ → List ℕ → Type 0
+addsOn n l t m room true n′ l′ =
+    (w o u k s p q out : List ℕ) (f : F2List)
+    → Fits (lent w o u l k s p q f)
+    → length out ≡ room
+    → _≡_ {A = Told} (record { number = 0; count = 0; sync = syncOf (numbersIn n′) (lent w o u l′ k s p q f); out = out })
+    (hears n (lent w o u l k s p q f) t m out)
+addsOn n l t m room false n′ l′ = (n′ ≡ n) × (l′ ≡ l)

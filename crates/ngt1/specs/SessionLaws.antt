@@ -11,8 +11,14 @@ use Rattle.field.specs.Tests.{left-true, right-true}
 use Rattle.bounds.specs.declared.Counts.{Counts}
 use Rattle.bounds.specs.Bounds.{countsFit, oldFits, soundAt}
 use Rattle.tx_list.proofs.LiveLists.{false-true}
-use lib.ListN.{length, getD, drop}
-use lib.Seq.{sets, drop-length}
+use lib.ListN.{length, getD, drop, set, length-set}
+use lib.Seq.{sets, drop-length, getD-set-same, getD-set-other}
+use Rattle.lists.specs.declared.F2List.{F2List}
+use Rattle.views.specs.ViewsLaws.{listPgns-length}
+use Rattle.tx_list.specs.Views.{F1, adds, f1Of, added, listPgns, groupCount, pgnsAt}
+use Rattle.tx_list.specs.Memory.{Flat}
+use Rattle.tx_list.specs.Moves.{soundIn, fullIn, addsTo, inF1, heard}
+use Rattle.tx_list.specs.Stored.{wire}
 use Rattle.field.specs.Written.{written}
 use Rattle.field.specs.WrittenLaws.{sets-written}
 use Rattle.tx_list.specs.declared.State.{State}
@@ -20,12 +26,16 @@ use Rattle.tx_list.specs.declared.State.the-variants.{AwaitStartup, ReadAt, Rea
 use Rattle.session.specs.declared.TxListSync.{TxListSync}
 use Rattle.session.specs.declared.Begun.{Begun}
 use Rattle.session.specs.declared.Numbers.{Numbers}
-use Rattle.tx_list.specs.Reading.{tick, message}
-use Rattle.session.specs.Sync.{Told, called}
+use Rattle.tx_list.specs.Reading.{tick, message, taken}
+use Rattle.session.specs.Sync.{kind, Told, called, Stepped, stepOf, wroteStep}
+use Rattle.session.specs.LentLaws.{sized, sound-flat, other}
+use Rattle.session.specs.LentReading.{awaiting, listing, adds-in}
+use Rattle.session.proofs.CallLaws.{message-by, judged, message-taken}
+use Rattle.session.proofs.HeardLaws.{by-state, hears-f1}
 use Rattle.session.proofs.LentCalls.{idle-quiet, ignored-quiet}
 use Rattle.session.specs.Sound.{helm}
-use Rattle.session.specs.Lent.{Arrays, Fits, syncOf, uncounted, soundFor, waitsIn, dueAt, mindsIn, idleAt, ignoredAt}
-use Rattle.ngt1.specs.Session.{isSet, one, calm, dueIn, ignoresOn, stateOf, phaseOf, attemptOf, numbersIn, numbersAs, answers, renews, asks}
+use Rattle.session.specs.Lent.{Arrays, Fits, lent, syncOf, flatOf, readsF2, uncounted, soundFor, waitsIn, dueAt, mindsIn, idleAt, ignoredAt}
+use Rattle.ngt1.specs.Session.{isSet, one, calm, dueIn, ignoresOn, hears, addedOn, addsOn, stateOf, phaseOf, attemptOf, numbersIn, numbersAs, answers, renews, asks}
 
 -- a list as long as the one it is written over takes its place
 sets-all-of : (new old : List ℕ) → length old ≡ length new → sets old 0 new ≡ new
@@ -325,3 +335,96 @@ idle-answers n a out t z e d =
 pub ignored-answers : (n : List ℕ) (a : Arrays) (out : List ℕ) (t : ℕ) (m : List ℕ) → Fits a → ignoresOn n t m (length out) ≡ true
     → called (syncOf (numbersIn n) a) (message t m (length out)) out ≡ record { number = 0; count = 0; sync = syncOf (numbersIn n) a; out = out }
 ignored-answers n a out t m z e = ignored-quiet (numbersIn n) a t m (length out) out z (looks-ignored n t m (length out) e)
+
+-- PGNs more of a list in Format 1
+
+in-adds : (h : Flat F2List ℕ) (t : ℕ) (m : List ℕ) → adds (listPgns m) ≡ f1Of m → stepOf (addsTo kind h (listPgns m) t) ≡ stepOf (inF1 kind (f1Of m) h t)
+unfolding inF1
+in-adds h t m e = ap (λ (v : F1). stepOf (inF1 kind v h t)) e
+
+module _ (n : List ℕ) (x t : ℕ) (z : length n ≡ 17) where
+  abbrev stored-two : List ℕ
+  stored-two = set (set n 5 x) 11 (t + 10000)
+
+  keeps : (k : ℕ) → (k ≡ 5 → ⊥) → (k ≡ 11 → ⊥) → getD stored-two k 0 ≡ getD n k 0
+  keeps k a b = getD-set-other (set n 5 x) 11 k (t + 10000) 0 b ∙ getD-set-other n 5 k x 0 a
+
+  listed : getD stored-two 5 0 ≡ x
+  listed = getD-set-other (set n 5 x) 11 5 (t + 10000) 0 (λ e. omega (arith, e)) ∙ getD-set-same n 5 x 0 (omega (arith, z))
+
+  due : getD stored-two 11 0 ≡ t + 10000
+  due = getD-set-same (set n 5 x) 11 (t + 10000) 0 (omega (arith, length-set n 5 x, z))
+
+  numbers-two : numbersIn stored-two ≡ awaiting (listing (numbersIn n .totals) x) (numbersIn n .state) t
+  numbers-two =
+      rw (
+        listed,
+        due,
+        keeps 0 (λ e. omega (arith, e)) (λ e. omega (arith, e)),
+        keeps 1 (λ e. omega (arith, e)) (λ e. omega (arith, e)),
+        keeps 2 (λ e. omega (arith, e)) (λ e. omega (arith, e)),
+        keeps 3 (λ e. omega (arith, e)) (λ e. omega (arith, e)),
+        keeps 4 (λ e. omega (arith, e)) (λ e. omega (arith, e)),
+        keeps 6 (λ e. omega (arith, e)) (λ e. omega (arith, e)),
+        keeps 7 (λ e. omega (arith, e)) (λ e. omega (arith, e)),
+        keeps 8 (λ e. omega (arith, e)) (λ e. omega (arith, e)),
+        keeps 9 (λ e. omega (arith, e)) (λ e. omega (arith, e)),
+        keeps 10 (λ e. omega (arith, e)) (λ e. omega (arith, e)),
+        keeps 12 (λ e. omega (arith, e)) (λ e. omega (arith, e)),
+        keeps 13 (λ e. omega (arith, e)) (λ e. omega (arith, e)),
+        keeps 14 (λ e. omega (arith, e)) (λ e. omega (arith, e)),
+        keeps 15 (λ e. omega (arith, e)) (λ e. omega (arith, e)),
+        keeps 16 (λ e. omega (arith, e)) (λ e. omega (arith, e)),
+      )
+
+module _ (n l m : List ℕ) (t : ℕ) (c : calm n ≡ true) (two : getD n 0 0 ≡ 2) (h : t ≤ 18446744073709541615) (short : length m ≤ 255)
+    (is-adds : adds (listPgns m) ≡ f1Of m) (n′ l′ : List ℕ) (fits : getD n 5 0 + groupCount m ≤ 1024)
+    (l-is : l′ ≡ sets l (getD n 5 0) (pgnsAt m 13 (groupCount m))) (n-is : n′ ≡ set (set n 5 (getD n 5 0 + groupCount m)) 11 (t + 10000)) (long : length n ≡ 17) where
+  abbrev x : Numbers
+  x = numbersIn n
+
+  abbrev attempt : ℕ
+  attempt = getD n 1 0 % 4294967296
+
+  in-phase : x .state ≡ ReadingF1 attempt
+  in-phase = ap (λ (p : ℕ). stateOf p attempt) two
+
+  after : numbersIn n′ ≡ awaiting (listing (x .totals) (getD n 5 0 + groupCount m)) (x .state) t
+  after = ap numbersIn n-is ∙ numbers-two n (getD n 5 0 + groupCount m) t long
+
+  has-room : (h : Flat F2List ℕ) → h .list .n ≡ getD n 5 0 → fullIn kind (x .state) h m ≡ false
+  unfolding added
+  has-room h e =
+      ap (λ (st : State). fullIn kind st h m) in-phase
+      ∙ (λ i. ltb 1024 (e i + length (added (sym is-adds i))))
+      ∙ le-ltb 1024 (getD n 5 0 + length (listPgns m)) (omega (arith, fits, listPgns-length m))
+
+  adds-done : (w o u k s p q out : List ℕ) (f : F2List) → Fits (lent w o u l k s p q f) → 32 ≤ length out
+      → _≡_ {A = Told} (record { number = 0; count = 0; sync = syncOf (numbersIn n′) (lent w o u l′ k s p q f); out = out })
+      (hears n (lent w o u l k s p q f) t m out)
+  unfolding wire
+  adds-done w o u k s p q out f z room =
+      let A = lent w o u l k s p q f in
+      let B = lent w o u l′ k s p q f in
+      let y = awaiting (listing (x .totals) (getD n 5 0 + groupCount m)) (x .state) t in
+      let S = syncOf x A in
+      let stepped : _≡_ {A = Stepped} (record { sent = []; sync = syncOf y B }) (stepOf (heard kind (x .state) (flatOf x A) t m)) =
+      by-state S t m in-phase
+      (hears-f1 S t m attempt
+      (adds-in x m t (groupCount m) l l′ refl l-is refl w o u k s p q f ∙ in-adds (flatOf x A) t m is-adds)) in
+      let sure : soundIn kind (flatOf x A) ≡ true = sym (sound-flat x A) ∙ calm-sound n (calm-parts n c) in
+      did-answer n n′ (omega (arith, two)) refl after A B out out
+      (λ r. pick {A = Told} (readsF2 (r .state)) (record { number = 100; count = 0; sync = r; out = out }) (called r (message t m (length out)) out))
+      (ap (λ (v : Stepped). wroteStep v out) stepped
+      ∙ message-by S t m (length out) out taken (sized x A z) (judged _ _ sure ∙ message-taken t m (length out) _ h short room (has-room (flatOf x A) refl))
+      ∙ other _ _ (ap readsF2 in-phase))
+
+-- what the export for such a message tells, by what was added
+pub adds-by : (n l m : List ℕ) (t room : ℕ) → calm n ≡ true → getD n 0 0 ≡ 2 → t ≤ 18446744073709541615 → length m ≤ 255 → 32 ≤ room → adds (listPgns m) ≡ f1Of m
+    → (r : Bool) (n′ l′ : List ℕ) → addedOn n l t m r n′ l′ → addsOn n l t m room r n′ l′
+adds-by n l m t room c two h short large a true n′ l′ d =
+    λ w o u k s p q out f z e. adds-done n l m t c two h short a n′ l′ (d .0) (d .1) (d .2) (d .3) w o u k s p q out f z (omega (arith, e, large))
+adds-by n l m t room c two h short large a false n′ l′ d = d
+
+pub calm-list : (n : List ℕ) → calm n ≡ true → getD n 5 0 ≤ 1024
+calm-list n c = leb-true _ _ (calm-parts n c .list)

@@ -13,14 +13,15 @@ use session::Renewed;
 use session::TICK_LIMIT;
 use session::Totals;
 use tx_list::State;
+use views::F1Kind;
 ghost use mathlib.Core.Path.{_≡_};
 ghost use mathlib.Core.List.{List};
-ghost use Prim.Native.Nat.{ℕ, _%_, _<_};
-ghost use lib.ListN.{length};
+ghost use Prim.Native.Nat.{ℕ, _%_, _≤_, _<_};
+ghost use lib.ListN.{length, getD, set};
 ghost use Rattle.tx_list.specs.Reading as model;
 ghost use Rattle.session.specs.Sync.{called, setTo, restarted, abandoned, lackOf, toldLacks};
 ghost use Rattle.session.specs.Lent.{Arrays, Fits, lent, syncOf, begunIn, mindsIn};
-ghost use Rattle.ngt1.specs.Session.{isSet, one, calm, dueIn, stateOf, phaseOf, attemptOf, numbersIn, toldOn, toldPartOn, answers, hears, hearsPart, ignoresOn, renewedOn, renews, lackNumber, asks};
+ghost use Rattle.ngt1.specs.Session.{isSet, one, calm, dueIn, addedOn, addsOn, stateOf, phaseOf, attemptOf, numbersIn, toldOn, toldPartOn, answers, hears, hearsPart, ignoresOn, renewedOn, renews, lackNumber, asks};
 
 // What a call answers: 0 or the refusal's number, and how many bytes were written.
 #[repr(C)]
@@ -272,6 +273,66 @@ pub extern "C" fn ngt1_session_ignores(
         return false;
     }
     !minds(n[0], payload)
+}
+
+// Stores one of the numbers.
+fn put(n: &mut [u64], at: usize, x: u64)
+    requires { ⌜ at < length (now n) ⌝ }
+    ensures { λ r. ⌜ now (n .exit) ≡ set (now (n .entry)) at x ⌝ }
+{
+    n[at] = x;
+}
+
+// PGNs more of a list in Format 1, where they have room; answers whether they had.
+fn add_pgns(n: &mut [u64; 17], list: &mut [u32; 1024], time: u64, payload: &[u8]) -> bool
+    requires { ⌜ (getD (now n) 5 0 ≤ 1024) × (time ≤ 18446744073709541615) ⌝ }
+    ensures { λ r. ⌜ addedOn (now (n .entry)) (now (list .entry)) time (now (payload .entry)) r (now (n .exit)) (now (list .exit)) ⌝ }
+{
+    let at = size(n[5]);
+    let count = views::group_count(payload);
+    if 1024 - at < count {
+        return false;
+    }
+    pgns::add_pgns(list, at, payload, 13, count);
+    let end = at + count;
+    put(n, 5, end as u64);
+    put(n, 11, time + 10000);
+    true
+}
+
+// The commonest message while Format 1 is read, PGNs more of the list, lending only that array: true where it was taken and all is done.
+// A false changes nothing and says nothing: give the message to the functions below.
+#[no_mangle]
+pub extern "C" fn ngt1_session_add(
+    n: &mut [u64; 17],
+    list: &mut [u32; 1024],
+    time: u64,
+    payload: &[u8],
+    room: usize,
+) -> bool
+    ensures { λ r. ⌜ addsOn (now (n .entry)) (now (list .entry)) time (now (payload .entry)) room r (now (n .exit)) (now (list .exit)) ⌝ }
+{
+    if n[0] != 2 {
+        return false;
+    }
+    if !is_calm(n) {
+        return false;
+    }
+    if TICK_LIMIT < time {
+        return false;
+    }
+    if 255 < payload.len() {
+        return false;
+    }
+    if room < 32 {
+        return false;
+    }
+    let kind = views::f1_kind(payload);
+    match kind {
+        F1Kind::Adds => add_pgns(n, list, time, payload),
+        F1Kind::Ends => false,
+        F1Kind::Neither => false,
+    }
 }
 
 // A message of the gateway at a time. While Format 2 is read it answers 100 and does nothing: such a message is for the function below.
