@@ -1,11 +1,13 @@
 -- What `encode_ngt_message` answers and leaves in the output. Assumes nothing.
-use Prim.Native.Nat.{ℕ}
+use Prim.Native.Nat.{ℕ, _+_, _%_}
+use mathlib.Core.Path.{_≡_}
 use mathlib.Core.List.{List, _++_}
 use lib.ListN.{length}
 use lib.Dec.{ltb}
 use Rattle.field.specs.Pick.{pick}
 use Rattle.field.specs.Written.{written}
-use Rattle.framing.specs.Frame.{dles, body, frame}
+use Rattle.field.specs.Puts.{Puts}
+use Rattle.framing.specs.Frame.{stuff, dles, sum, body, frame}
 use Rattle.framing.specs.declared.Encoded.{Encoded}
 use Rattle.framing.specs.declared.Encoded.the-variants.{Written, Refused}
 
@@ -40,3 +42,8 @@ encoded cmd payload out =
 -- an encoder whose payload is a head and then data, at most `limit` of them: "payload or data over its limit" is 6
 unfoldable pub within : ℕ → ℕ → List ℕ → List ℕ → List ℕ → Answer
 within limit cmd head rest out = pick (ltb limit (length rest)) (refused 6 out) (encoded cmd (head ++ rest) out)
+
+-- bytes stand in the output, stuffed, from a place on, and are added to the sum of what went before them
+pub record Sums (old : List ℕ) (at before : ℕ) (s new : List ℕ) (next total : ℕ) : Type 0 where
+  pub put : Puts old at (stuff s) new next
+  pub added : total ≡ (before + sum s) % 256

@@ -49,3 +49,7 @@ frame cmd payload = framed (body cmd payload)
 unfoldable pub wire : ℕ → ℕ → List ℕ → ℕ → List ℕ
 wire cmd len payload check =
     (0x10 ∷ 0x02 ∷ []) ++ stuffed cmd ++ stuffed len ++ stuff payload ++ stuffed check ++ (0x10 ∷ 0x03 ∷ [])
+
+-- the same with its checksum
+abbrev pub checked : ℕ → ℕ → List ℕ → List ℕ
+checked cmd len payload = wire cmd len payload (checksum (covered cmd payload))

@@ -139,6 +139,26 @@ checksum-wrapped cmd payload {head} {rest} {total} {check} h r t k f =
     t ∙ rw (h, r, ← add-mod, add-assoc) in
     wrapped-negative ((cmd + (length payload + sum payload)) % 256) check (below-256 _) f (rw e at k)
 
+-- a wrapping sum of what was wrapped before
+wrap-more : (a b c : ℕ) → ((a + b) % 256 + c) % 256 ≡ (a + (b + c)) % 256
+wrap-more a b c = omega arith
+
+-- one byte more of a sum that goes on from what went before
+pub sum-more : (before : ℕ) (s : List ℕ) (i : ℕ) {a b : ℕ} → i < length s → a ≡ (before + sum (take i s)) % 256 → b ≡ (a + getD s i 0) % 256
+    → b ≡ (before + sum (take (i + 1) s)) % 256
+sum-more before s i {a} {b} h p q = q ∙ rw (p, sum-take s i h) (wrap-more before (sum (take i s)) (getD s i 0))
+
+-- the checksum byte of a payload in two parts, as the sum of a frame that is written gives it
+pub checksum-summed : (cmd : ℕ) (xs ys : List ℕ) {w a b check : ℕ} → w ≡ (cmd + length (xs ++ ys)) % 256 → a ≡ (w + sum xs) % 256
+    → b ≡ (a + sum ys) % 256 → (check + b) % 256 ≡ 0 → check < 256 → check ≡ checksum (covered cmd (xs ++ ys))
+unfolding checksum covered sum
+checksum-summed cmd xs ys {w} {a} {b} {check} e p q k f =
+    let n = length (xs ++ ys) in
+    let t : a ≡ (cmd + (n + sum xs)) % 256 = p ∙ rw e (wrap-more cmd n (sum xs)) in
+    let u : b ≡ (cmd + (n + sum xs + sum ys)) % 256 = q ∙ rw t (wrap-more cmd (n + sum xs) (sum ys)) in
+    let v : b ≡ (cmd + (n + sum (xs ++ ys))) % 256 = u ∙ rw (sum-append xs ys, add-assoc n (sum xs) (sum ys)) in
+    wrapped-negative ((cmd + (n + sum (xs ++ ys))) % 256) check (below-256 _) f (rw v at k)
+
 -- the sum of a payload in two parts, as a wrapping sum gives it
 pub sum-parts : (xs ys : List ℕ) {a b c : ℕ} → a ≡ sum xs % 256 → b ≡ sum ys % 256 → c ≡ (a + b) % 256 → c ≡ sum (xs ++ ys) % 256
 sum-parts xs ys {a} {b} {c} p q r =

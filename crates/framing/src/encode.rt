@@ -5,13 +5,19 @@ use super::Encoded;
 use super::STX;
 use super::checksum_of;
 ghost use mathlib.Core.Path.{_≡_};
-ghost use Prim.Native.Nat.{_+_, _≤_};
+ghost use Prim.Native.Nat.{_+_, _%_, _≤_, _<_};
 ghost use mathlib.Core.List.{_∷_, [], _++_};
 ghost use lib.Dec.{leb};
 ghost use lib.ListN.{length};
 ghost use Rattle.field.specs.Puts.{Puts};
-ghost use Rattle.framing.specs.Frame.{stuffed, stuff, dles, covered, checksum, wire};
-ghost use Rattle.framing.specs.Encode.{toldEncoded, encoded};
+ghost use Rattle.framing.specs.Frame.{stuffed, stuff, dles, covered, checksum, wire, checked};
+ghost use Rattle.framing.specs.Encode.{toldEncoded, encoded, Sums};
+
+// Where a run of bytes ended in the output, and the sum of a frame's bytes up to there, modulo 256.
+struct Summed {
+    next: usize,
+    total: u8,
+}
 
 // 1 for a DLE, which takes a byte more on the wire, and 0 for any other byte.
 fn extra(b: u8) -> u8
@@ -48,32 +54,43 @@ fn write_stuffed(out: &mut [u8], at: usize, b: u8) -> usize
     }
 }
 
-// Writes the bytes of s, stuffed, from the place at on, and returns the place after them.
-fn write_all_stuffed(out: &mut [u8], at: usize, s: &[u8]) -> usize
+// Writes the bytes of s, stuffed, from the place at on, and adds them to the sum of what went before.
+fn write_all_stuffed(out: &mut [u8], at: usize, s: &[u8], before: u8) -> Summed
     requires { ⌜ at + length (stuff (now s)) ≤ length (now out) ⌝ }
-    ensures { λ r. ⌜ Puts (now (out .entry)) at (stuff (now (s .entry))) (now (out .exit)) r ⌝ }
+    ensures { λ r. ⌜ Sums (now (out .entry)) at before (now (s .entry)) (now (out .exit)) (r .next) (r .total) ⌝ }
 {
     let mut next = at;
+    let mut total = before;
     let mut i = 0;
     while i < s.len() {
-        next = write_stuffed(out, next, s[i]);
+        let b = s[i];
+        total = std::num::wrapping_add_u8(total, b);
+        next = write_stuffed(out, next, b);
         i += 1;
     }
-    next
+    Summed { next, total }
 }
 
-// Writes a frame of these parts from the start of out, its payload head and then rest, and returns its length.
-fn write_frame(out: &mut [u8], cmd: u8, len: u8, head: &[u8], rest: &[u8], check: u8) -> usize
-    requires { ⌜ length (wire cmd len (now head ++ now rest) check) ≤ length (now out) ⌝ }
-    ensures { λ r. ⌜ Puts (now (out .entry)) 0 (wire cmd len (now (head .entry) ++ now (rest .entry)) check) (now (out .exit)) r ⌝ }
+// The byte that brings a sum to 0 modulo 256.
+fn closing_byte(total: u8) -> u8
+    ensures { λ r. ⌜ ((r + total) % 256 ≡ 0) × (r < 256) ⌝ }
+{
+    std::num::wrapping_sub_u8(0, total)
+}
+
+// Writes a frame from the start of out, its payload head and then rest, in one pass, and returns its length.
+fn write_frame(out: &mut [u8], cmd: u8, len: u8, head: &[u8], rest: &[u8]) -> usize
+    requires { ⌜ len ≡ length (now head ++ now rest) ⌝ }
+    requires { ⌜ length (checked cmd len (now head ++ now rest)) ≤ length (now out) ⌝ }
+    ensures { λ r. ⌜ Puts (now (out .entry)) 0 (checked cmd len (now (head .entry) ++ now (rest .entry))) (now (out .exit)) r ⌝ }
 {
     out[0] = DLE;
     out[1] = STX;
     let mut at = write_stuffed(out, 2, cmd);
     at = write_stuffed(out, at, len);
-    at = write_all_stuffed(out, at, head);
-    at = write_all_stuffed(out, at, rest);
-    at = write_stuffed(out, at, check);
+    let first = write_all_stuffed(out, at, head, std::num::wrapping_add_u8(cmd, len));
+    let second = write_all_stuffed(out, first.next, rest, first.total);
+    at = write_stuffed(out, second.next, closing_byte(second.total));
     out[at] = DLE;
     out[at + 1] = ETX;
     at + 2
@@ -86,8 +103,7 @@ fn checksum_byte(cmd: u8, len: u8, head: &[u8], rest: &[u8]) -> u8
 {
     let first = std::num::wrapping_add_u8(cmd, len);
     let payload = std::num::wrapping_add_u8(checksum_of(head), checksum_of(rest));
-    let total = std::num::wrapping_add_u8(first, payload);
-    std::num::wrapping_sub_u8(0, total)
+    closing_byte(std::num::wrapping_add_u8(first, payload))
 }
 
 // How many bytes a frame of these parts takes.
@@ -100,14 +116,16 @@ fn wire_len(cmd: u8, len: u8, head: &[u8], rest: &[u8], check: u8) -> usize
     7 + head.len() + rest.len() + doubled + ends as usize
 }
 
-// Whether a frame of these parts fits so many bytes. No frame is longer than 2 * n + 10, so DLEs are counted only where room is short.
-fn has_room(room: usize, cmd: u8, len: u8, head: &[u8], rest: &[u8], check: u8) -> bool
+// Whether a frame fits so many bytes. No frame is longer than 2 * n + 10, so DLEs are counted only where room is short.
+fn has_room(room: usize, cmd: u8, len: u8, head: &[u8], rest: &[u8]) -> bool
+    requires { ⌜ len ≡ length (now head ++ now rest) ⌝ }
     requires { ⌜ length (now head) + length (now rest) ≤ 255 ⌝ }
-    ensures { λ r. ⌜ r ≡ leb (length (wire cmd len (now (head .entry) ++ now (rest .entry)) check)) room ⌝ }
+    ensures { λ r. ⌜ r ≡ leb (length (checked cmd len (now (head .entry) ++ now (rest .entry)))) room ⌝ }
 {
     if 2 * (head.len() + rest.len()) + 10 <= room {
         return true;
     }
+    let check = checksum_byte(cmd, len, head, rest);
     wire_len(cmd, len, head, rest, check) <= room
 }
 
@@ -118,9 +136,8 @@ fn encode_short(cmd: u8, head: &[u8], rest: &[u8], out: &mut [u8]) -> Encoded
 {
     let n = head.len() + rest.len();
     let len = n as u8;
-    let check = checksum_byte(cmd, len, head, rest);
-    if has_room(out.len(), cmd, len, head, rest, check) {
-        let count = write_frame(out, cmd, len, head, rest, check);
+    if has_room(out.len(), cmd, len, head, rest) {
+        let count = write_frame(out, cmd, len, head, rest);
         return Encoded::Written {
             count,
             doubled: count - n - 7,

@@ -1,7 +1,7 @@
--- `framing::checksum_byte` meets its contract. Assumes nothing.
+-- `framing::encode::checksum_byte` meets its contract. Assumes nothing.
 use mathlib.Core.List.{_++_}
-use borrow.Author.Needs.{needs}
 use Rattle.framing.specs.FrameLaws.{checksum-wrapped, sum-parts}
+use borrow.Author.Needs.{needs}
 use Rattle.framing.proofs.encode.checksum_byte.Statement.{statement}
 use Rattle.framing.proofs.encode.checksum_byte.Tie as tie
 
@@ -20,8 +20,8 @@ wrapping-add-u8-requires-2 c κs = search needs
 wrapping-add-u8-requires-3 : tie.Need-wrapping-add-u8-requires-3
 wrapping-add-u8-requires-3 c κs = search needs
 
-wrapping-sub-u8-requires : tie.Need-wrapping-sub-u8-requires
-wrapping-sub-u8-requires c κs = search needs
+closing-byte-requires : tie.Need-closing-byte-requires
+closing-byte-requires c κs = search needs
 
 returns : tie.Need-returns
 returns c =
@@ -36,8 +36,8 @@ returns c =
     (rw (← s .pre) (w .wrapping-add-u8 .ensures))
     (sum-parts head rest (q .before .checksum-of .ensures) (q .checksum-of2 .ensures) (p .wrapping-add-u82 .ensures))
     (t .wrapping-add-u83 .ensures)
-    (c .wrapping-sub-u8 .ensures)
-    (search needs)
+    (c .closing-byte .ensures .0)
+    (c .closing-byte .ensures .1)
 
 pub checksum-byte-spec : {M : Type 1} → statement M
 checksum-byte-spec =
@@ -48,5 +48,5 @@ checksum-byte-spec =
     checksum-of-requires-2
     wrapping-add-u8-requires-2
     wrapping-add-u8-requires-3
-    wrapping-sub-u8-requires
+    closing-byte-requires
     returns)

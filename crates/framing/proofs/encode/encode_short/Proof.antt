@@ -9,11 +9,11 @@ use Rattle.field.specs.Tests.{le-said, lt-said}
 use Rattle.framing.specs.Encode.{wrote}
 use Rattle.framing.specs.EncodeLaws.{encoded-7, encoded-by}
 use Rattle.framing.specs.FrameLaws.{frame-wire, wire-least}
-use Rattle.framing.specs.Frame.{frame, wire, checksum, covered}
+use Rattle.framing.specs.Frame.{frame, wire, checked, checksum, covered}
 use Rattle.framing.proofs.encode.encode_short.Statement.{statement}
 use Rattle.framing.proofs.encode.encode_short.Tie as tie
 
-abbrev start : tie.After-checksum-byte → tie.Start
+abbrev start : tie.After-has-room → tie.Start
 start c = c .before .before .before .before
 
 abbrev payload : tie.Start → List ℕ
@@ -30,16 +30,14 @@ short : (s : tie.Start) → length (payload s) ≤ 255
 short s = omega (arith, len-is s, s .pre)
 
 -- what is to be written, by its parts
-abbrev parts : tie.After-checksum-byte → List ℕ
-parts c = let s = start c in wire (s .args .cmd) (len s) (payload s) (c .checksum-byte .result)
+abbrev parts : tie.Start → List ℕ
+parts s = checked (s .args .cmd) (len s) (payload s)
 
 -- it is the frame
-whole : (c : tie.After-checksum-byte) → frame (start c .args .cmd) (payload (start c)) ≡ parts c
-whole c =
-    let s = start c in
+whole : (s : tie.Start) → frame (s .args .cmd) (payload s) ≡ parts s
+whole s =
     frame-wire (s .args .cmd) (payload s)
     ∙ ap (λ (n : ℕ). wire (s .args .cmd) n (payload s) (checksum (covered (s .args .cmd) (payload s)))) (len-is s)
-    ∙ ap (λ (k : ℕ). wire (s .args .cmd) (len s) (payload s) k) (sym (c .checksum-byte .ensures))
 
 add-n : tie.Need-add-n
 add-n c = search needs
@@ -47,28 +45,27 @@ add-n c = search needs
 cast-len : tie.Need-cast-len
 cast-len c = search needs
 
-checksum-byte-requires : tie.Need-checksum-byte-requires
-checksum-byte-requires c κs = sym (len-is (c .before .before .before))
-
 has-room-requires : tie.Need-has-room-requires
-has-room-requires c κs = search needs
+has-room-requires c κs = let s = c .before .before .before in (sym (len-is s), s .pre)
 
 write-frame-requires : tie.Need-write-frame-requires
-write-frame-requires c κs = le-said _ _ (c .before .before .has-room .ensures) (c .before .if1 .taken)
+write-frame-requires c κs =
+    let r = c .before .before in
+    (sym (len-is (start r)), le-said _ _ (r .has-room .ensures) (c .before .if1 .taken))
 
 -- the frame is longer than what is taken from its length
-least : (c : tie.After-write-frame) → len (start (c .before .before .before .before)) + 7 ≤ c .write-frame .result
+least : (c : tie.After-write-frame) → len (start (c .before .before .before)) + 7 ≤ c .write-frame .result
 least c =
-    let w = c .before .before .before .before in
-    let s = start w in
-    let h : length (payload s) + 7 ≤ length (parts w) = wire-least (s .args .cmd) (len s) (payload s) (w .checksum-byte .result) in
+    let s = start (c .before .before .before) in
+    let h : length (payload s) + 7 ≤ length (parts s) =
+    wire-least (s .args .cmd) (len s) (payload s) (checksum (covered (s .args .cmd) (payload s))) in
     omega (arith, len-is s, c .write-frame .ensures .after)
+
+sub-t13 : tie.Need-sub-t13
+sub-t13 c = omega (arith, least (c .before .before))
 
 sub-t14 : tie.Need-sub-t14
 sub-t14 c = omega (arith, least (c .before .before))
-
-sub-t15 : tie.Need-sub-t15
-sub-t15 c = omega (arith, least (c .before .before))
 
 same-length : tie.Need-same-length
 same-length c = search needs
@@ -76,32 +73,21 @@ same-length c = search needs
 returns : tie.Need-returns
 returns c =
     let k = c .before .before in
-    let e = k .before .before in
-    let w = e .before .before in
-    let s = start w in
-    let f : length (parts w) ≤ length (s .args .out .now) = le-said _ _ (e .before .has-room .ensures) (e .if1 .taken) in
+    let t = k .before .before in
+    let r = t .before in
+    let s = start r in
+    let f : length (parts s) ≤ length (s .args .out .now) = le-said _ _ (r .has-room .ensures) (t .if1 .taken) in
     ap (λ (n : ℕ). wrote (k .write-frame .result) (k .write-frame .result - n - 7) (k .write-frame .last .0)) (sym (len-is s))
-    ∙ encoded-by (s .args .cmd) (payload s) (s .args .out .now) _ (short s) (omega (arith, ap length (whole w), f)) (whole w) (k .write-frame .ensures)
+    ∙ encoded-by (s .args .cmd) (payload s) (s .args .out .now) _ (short s) (omega (arith, ap length (whole s), f)) (whole s) (k .write-frame .ensures)
 
 returns-2 : tie.Need-returns-2
 returns-2 c =
     let r = c .before in
-    let w = r .before in
-    let s = start w in
-    let f : length (s .args .out .now) < length (parts w) = lt-said _ _ (r .has-room .ensures) (c .if1 .left) in
-    sym (encoded-7 _ _ _ (short s) (omega (arith, ap length (whole w), f)))
+    let s = start r in
+    let f : length (s .args .out .now) < length (parts s) = lt-said _ _ (r .has-room .ensures) (c .if1 .left) in
+    sym (encoded-7 _ _ _ (short s) (omega (arith, ap length (whole s), f)))
 
 pub encode-short-spec : {M : Type 1} → statement M
 encode-short-spec =
     tie.close
-    (tie.spec
-    add-n
-    cast-len
-    checksum-byte-requires
-    has-room-requires
-    write-frame-requires
-    sub-t14
-    sub-t15
-    same-length
-    returns
-    returns-2)
+    (tie.spec add-n cast-len has-room-requires write-frame-requires sub-t13 sub-t14 same-length returns returns-2)
