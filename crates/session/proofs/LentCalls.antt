@@ -14,7 +14,7 @@ use Rattle.views.specs.ViewsLaws.{f1-other, f2-alien}
 use Rattle.tx_list.specs.declared.State.{State}
 use Rattle.tx_list.specs.declared.State.the-variants.{AwaitStartup, ReadAt, ReadingF2, Reading as ReadingF1, Enabling, Committing, Activating, Done}
 use Rattle.tx_list.specs.Views.{parsed, noError, F1, added, F2, isAnswer, ackBy, ackOf}
-use Rattle.tx_list.specs.Reading.{message, tick, taken}
+use Rattle.tx_list.specs.Reading.{Verdict, message, tick, taken, refuse, vetMessage}
 use Rattle.tx_list.specs.Session.{AllLe}
 use Rattle.tx_list.specs.Stored.{wire}
 use Rattle.tx_list.specs.Memory.{Flat, counts}
@@ -22,10 +22,10 @@ use Rattle.tx_list.specs.Moves.{Moved, stays, waitsFrom, answered, committed, a
 use Rattle.tx_list.proofs.LiveLists.{false-true}
 use Rattle.session.specs.declared.TxListSync.{TxListSync}
 use Rattle.session.specs.declared.Numbers.{Numbers}
-use Rattle.session.specs.Sync.{kind, ofSync, called, stepOf, wroteStep}
+use Rattle.session.specs.Sync.{kind, ofSync, Told, called, stepOf, wroteStep}
 use Rattle.session.specs.Lent.{Arrays, Fits, syncOf, flatOf, soundFor, waitsIn, dueAt, mindsIn, idleAt, ignoredAt}
 use Rattle.session.specs.LentLaws.{sized, sound-flat}
-use Rattle.session.proofs.CallLaws.{tick-by, message-by, judged, tick-taken, message-taken}
+use Rattle.session.proofs.CallLaws.{byVerdict, tick-by, message-by, unsound, judged, tick-taken, message-far, message-long, message-small, message-full, message-taken}
 use Rattle.session.proofs.HeardLaws.{within}
 
 -- 16, by is_sound's answer
@@ -35,6 +35,39 @@ module _ (x : Numbers) (a : Arrays) {y : Bool} (e : y ≡ soundFor x) where
 
   pub sound-yes : not y ≡ false → soundIn kind (flatOf x a) ≡ true
   sound-yes n = sym (sound-flat x a) ∙ sym e ∙ not-false y n
+
+-- a message, by the tests of `message` and `part`
+module _ (x : Numbers) (t : ℕ) (m out : List ℕ) (a : Arrays) (z : Fits a) {y : Bool} (e : y ≡ soundFor x) where
+  abbrev Answers : Told → Type 0
+  Answers r = r ≡ called (syncOf x a) (message t m (length out)) out
+
+  abbrev kept : ℕ → Told
+  kept n = record { number = n; count = 0; sync = syncOf x a; out = out }
+
+  pub message-16 : not y ≡ true → Answers (kept 16)
+  message-16 n = message-by (syncOf x a) t m (length out) out (refuse 16) (sized x a z) (unsound _ _ (sound-no x a e n))
+
+  module _ (s : not y ≡ false) where
+    by : (v : Verdict) → vetMessage t m (length out) (fullIn kind (x .state) (flatOf x a) m) ≡ v → Answers (byVerdict v (syncOf x a) (heard kind (x .state) (flatOf x a) t m) out)
+    by v g = message-by (syncOf x a) t m (length out) out v (sized x a z) (judged _ _ (sound-yes x a e s) ∙ g)
+
+    pub message-13 : 18446744073709541615 < t → Answers (kept 13)
+    message-13 h = by (refuse 13) (message-far t m (length out) _ h)
+
+    module _ (h : t ≤ 18446744073709541615) where
+      pub message-6 : 255 < length m → Answers (kept 6)
+      message-6 g = by (refuse 6) (message-long t m (length out) _ h g)
+
+      module _ (g : length m ≤ 255) where
+        pub message-7 : length out < 32 → Answers (kept 7)
+        message-7 k = by (refuse 7) (message-small t m (length out) _ h g k)
+
+        module _ (k : 32 ≤ length out) where
+          pub message-14 : fullIn kind (x .state) (flatOf x a) m ≡ true → Answers (kept 14)
+          message-14 f = by (refuse 14) (message-full t m (length out) _ h g k f)
+
+          pub message-0 : fullIn kind (x .state) (flatOf x a) m ≡ false → Answers (wroteStep (stepOf (heard kind (x .state) (flatOf x a) t m)) out)
+          message-0 f = by taken (message-taken t m (length out) _ h g k f)
 
 -- is_idle, by its tests
 module _ (x : Numbers) (t room : ℕ) where

@@ -2,7 +2,7 @@
 use mathlib.Core.Path.{_≡_}
 use mathlib.Core.Bool.{Bool, true, false, not, _&&_}
 use mathlib.Core.List.{List}
-use Prim.Native.Nat.{ℕ}
+use Prim.Native.Nat.{ℕ, _+_}
 use lib.Dec.{leb, ltb}
 use lib.Seq.{sets}
 use lib.ListN.{length}
@@ -131,68 +131,49 @@ arraysOf s =
     lent (s .held .wanted .pgns) (s .held .owed .pgns) (s .held .fresh .pgns) (s .held .list .pgns) (s .held .known .list .pgns)
     (s .held .learned .saved .pgns) (s .held .learned .present .pgns) (s .held .learned .refused .pgns) (s .held .f2)
 
--- a list of so many PGNs is known
-abbrev pub knownTotals : Totals → Bool → ℕ → Totals
-knownTotals t whole n =
-    record {
-      counts =
-          record {
-            wanted = t .counts .wanted;
-            owed = t .counts .owed;
-            fresh = t .counts .fresh;
-            list = t .counts .list;
-            proprietary = t .counts .proprietary;
-            known = n;
-            saved = t .counts .saved;
-            present = t .counts .present;
-            refused = t .counts .refused;
-          };
-      deadline = t .deadline;
-      read = true;
-      complete = whole;
-      told = t .told;
-      version = t .version;
-      blank = t .blank;
-    }
-
--- these parts of Format 2 are in hand
-abbrev pub holding : Totals → F2List → Totals
-holding t f =
-    record {
-      counts =
-          record {
-            wanted = t .counts .wanted;
-            owed = t .counts .owed;
-            fresh = t .counts .fresh;
-            list = t .counts .list;
-            proprietary = f .proprietary .list .n;
-            known = t .counts .known;
-            saved = t .counts .saved;
-            present = t .counts .present;
-            refused = t .counts .refused;
-          };
-      deadline = t .deadline;
-      read = t .read;
-      complete = t .complete;
-      told = t .told;
-      version = t .version;
-      blank = false;
-    }
-
--- 16, by the numbers alone: where no part is in hand no proprietary PGN is
-abbrev pub uncounted : Counts → Counts
-uncounted c =
+-- other counts of what a call changes: wanted and the record stay
+abbrev pub recount : Counts → ℕ → ℕ → ℕ → ℕ → ℕ → Counts
+recount c owed fresh list proprietary known =
     record {
       wanted = c .wanted;
-      owed = c .owed;
-      fresh = c .fresh;
-      list = c .list;
-      proprietary = 0;
-      known = c .known;
+      owed = owed;
+      fresh = fresh;
+      list = list;
+      proprietary = proprietary;
+      known = known;
       saved = c .saved;
       present = c .present;
       refused = c .refused;
     }
+
+-- the same with a due time and flags: the firmware stays
+abbrev pub retotal : Totals → Counts → ℕ → Bool → Bool → Bool → Totals
+retotal t c deadline read complete blank =
+    record { counts = c; deadline = deadline; read = read; complete = complete; told = t .told; version = t .version; blank = blank }
+
+-- other counts alone
+abbrev pub counting : Totals → Counts → Totals
+counting t c = retotal t c (t .deadline) (t .read) (t .complete) (t .blank)
+
+-- a list of so many PGNs is known
+abbrev pub knownTotals : Totals → Bool → ℕ → Totals
+knownTotals t whole n =
+    let c = t .counts in
+    retotal t (recount c (c .owed) (c .fresh) (c .list) (c .proprietary) n) (t .deadline) true whole (t .blank)
+
+-- these parts of Format 2 are in hand
+abbrev pub holding : Totals → F2List → Totals
+holding t f =
+    let c = t .counts in
+    retotal t (recount c (c .owed) (c .fresh) (c .list) (f .proprietary .list .n) (c .known)) (t .deadline) (t .read) (t .complete) false
+
+-- another phase, with an answer awaited from a time on
+abbrev pub awaiting : Totals → State → ℕ → Numbers
+awaiting t st time = record { state = st; totals = retotal t (t .counts) (time + 10000) (t .read) (t .complete) (t .blank) }
+
+-- 16, by the numbers alone: where no part is in hand no proprietary PGN is
+abbrev pub uncounted : Counts → Counts
+uncounted c = recount c (c .owed) (c .fresh) (c .list) 0 (c .known)
 
 abbrev pub seen : Totals → Counts
 seen t = pick (t .blank) (uncounted (t .counts)) (t .counts)

@@ -19,74 +19,17 @@ use Rattle.session.specs.declared.TxListSync.{TxListSync}
 use Rattle.session.specs.declared.Totals.{Totals}
 use Rattle.session.specs.declared.Numbers.{Numbers}
 use Rattle.session.specs.Sync.{kind, Stepped, stepOf}
-use Rattle.session.specs.Lent.{Arrays, lent, syncOf, flatOf, knownTotals}
+use Rattle.session.specs.Lent.{Arrays, lent, syncOf, flatOf, recount, counting, knownTotals, awaiting}
 use Rattle.session.specs.ReadingLaws as laws
 use Rattle.session.specs.ReadingLaws.{adds-told, list-none, none-written, list-some, noted-told, knownAs, front-read}
 
--- another phase, with an answer awaited from a time on
-abbrev pub awaiting : Totals → State → ℕ → Numbers
-awaiting t st time =
-    record {
-      state = st;
-      totals =
-          record {
-            counts = t .counts;
-            deadline = time + 10000;
-            read = t .read;
-            complete = t .complete;
-            told = t .told;
-            version = t .version;
-            blank = t .blank;
-          };
-    }
-
 -- the list read so far has so many
 abbrev pub listing : Totals → ℕ → Totals
-listing t n =
-    record {
-      counts =
-          record {
-            wanted = t .counts .wanted;
-            owed = t .counts .owed;
-            fresh = t .counts .fresh;
-            list = n;
-            proprietary = t .counts .proprietary;
-            known = t .counts .known;
-            saved = t .counts .saved;
-            present = t .counts .present;
-            refused = t .counts .refused;
-          };
-      deadline = t .deadline;
-      read = t .read;
-      complete = t .complete;
-      told = t .told;
-      version = t .version;
-      blank = t .blank;
-    }
+listing t n = let c = t .counts in counting t (recount c (c .owed) (c .fresh) n (c .proprietary) (c .known))
 
 -- so many are owed, none is fresh
 abbrev pub owes : Totals → ℕ → Totals
-owes t n =
-    record {
-      counts =
-          record {
-            wanted = t .counts .wanted;
-            owed = n;
-            fresh = 0;
-            list = t .counts .list;
-            proprietary = t .counts .proprietary;
-            known = t .counts .known;
-            saved = t .counts .saved;
-            present = t .counts .present;
-            refused = t .counts .refused;
-          };
-      deadline = t .deadline;
-      read = t .read;
-      complete = t .complete;
-      told = t .told;
-      version = t .version;
-      blank = t .blank;
-    }
+owes t n = let c = t .counts in counting t (recount c n 0 (c .list) (c .proprietary) (c .known))
 
 -- PGNs more of a list in Format 1
 pub adds-in :

@@ -21,7 +21,7 @@ ghost use Rattle.tx_list.specs.Views.{has, isGood, isThere, isDenied, answerOf,
 ghost use Rattle.tx_list.specs.Moves.{pushIf, marks, goesOn, asksNext, closes, commits, committed, activated, heard};
 ghost use Rattle.views.specs.Told.{toldResult};
 ghost use Rattle.session.specs.Sync.{kind, toSync, stepOf};
-ghost use Rattle.session.specs.Lent.{Arrays, lent, syncOf, flatOf, toldStep};
+ghost use Rattle.session.specs.Lent.{Arrays, lent, syncOf, flatOf, toldStep, awaiting};
 ghost use Rattle.session.specs.AnswersLaws.{isNow};
 
 // The PGN stored after the first n, where a test passed; answers the new count.
@@ -124,7 +124,7 @@ fn mark(
 // Another phase, with an answer awaited from now on.
 pub(crate) fn await_answer(t: Totals, state: State, time: u64) -> Numbers
     requires { ⌜ time ≤ 18446744073709541615 ⌝ }
-    ensures { λ r. ⌜ r ≡ record { state = state; totals = record { counts = t .counts; deadline = time + 10000; read = t .read; complete = t .complete; told = t .told; version = t .version; blank = t .blank } } ⌝ }
+    ensures { λ r. ⌜ r ≡ awaiting t state time ⌝ }
 {
     let mut u = t;
     u.deadline = time + ANSWER_TIMEOUT_MS;

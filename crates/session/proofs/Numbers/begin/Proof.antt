@@ -1,11 +1,10 @@
 -- `session::Numbers::begin` meets its contract. Assumes nothing.
 use native.Mathlib.Omega.{arith}
-use mathlib.Core.Path.{_≡_, sym, ap, _∙_}
+use mathlib.Core.Path.{sym, ap, _∙_}
 use borrow.Author.Needs.{needs}
 use borrow.Author.Tests.{lt-ltb, le-ltb, not-true, not-false}
-use lib.ListN.{length, take}
+use lib.ListN.{length}
 use lib.Seq.{sets, take-all}
-use Rattle.session.specs.declared.Begun.{Begun}
 use Rattle.session.specs.Lent.{lent, syncOf, begunIn}
 use Rattle.session.proofs.Numbers.begin.Statement.{statement}
 use Rattle.session.proofs.Numbers.begin.Tie as tie

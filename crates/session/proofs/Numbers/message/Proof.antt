@@ -1,23 +1,17 @@
 -- `session::Numbers::message` meets its contract. Assumes nothing.
 use native.Mathlib.Omega.{arith}
 use mathlib.Core.Path.{_≡_, sym, ap, _∙_}
-use mathlib.Core.Bool.{true, false, not}
-use mathlib.Core.List.{List}
-use Prim.Native.Nat.{ℕ}
+use mathlib.Core.Bool.{false, not}
 use borrow.Author.Needs.{needs}
 use borrow.Author.Tests.{not-false}
-use lib.ListN.{length}
 use Rattle.lists.specs.declared.F2List.{F2List}
 use Rattle.lists.specs.Format2.{noParts}
-use Rattle.tx_list.specs.Reading.{Verdict, taken, refuse}
-use Rattle.tx_list.specs.Moves.{soundIn, judgeMessage}
 use Rattle.session.specs.declared.Answered.{Answered}
-use Rattle.session.specs.Sync.{kind, ofSync, Stepped, wroteStep}
-use Rattle.session.specs.Lent.{Arrays, lent, syncOf, flatOf, toldAnswer, readsF2}
-use Rattle.session.specs.LentLaws.{sized, chosen, other}
+use Rattle.session.specs.Sync.{Stepped, wroteStep}
+use Rattle.session.specs.Lent.{Arrays, lent, syncOf, toldAnswer, readsF2}
+use Rattle.session.specs.LentLaws.{chosen, other}
 use Rattle.session.proofs.HeardLaws.{within}
-use Rattle.session.proofs.CallLaws.{message-by, unsound, judged, message-far, message-long, message-small, message-full, message-taken}
-use Rattle.session.proofs.LentCalls.{sound-no, sound-yes}
+use Rattle.session.proofs.LentCalls.{sound-yes, message-16, message-13, message-6, message-7, message-14, message-0}
 use Rattle.session.proofs.Numbers.message.Statement.{statement}
 use Rattle.session.proofs.Numbers.message.Tie as tie
 
@@ -65,7 +59,7 @@ returns-2 c =
     let o = a .out .now in
     λ f z.
     ap (λ (r : Answered). toldAnswer r (arrays b f) o) (c .refused2 .ensures)
-    ∙ message-by (syncOf (a .self) (arrays b f)) (a .time) (a .payload .now) (length o) o (refuse 16) (sized (a .self) (arrays b f) z) (unsound _ _ (sound-no (a .self) (arrays b f) (i .is-sound .ensures) (c .before .if2 .taken)))
+    ∙ message-16 (a .self) (a .time) (a .payload .now) o (arrays b f) z (i .is-sound .ensures) (c .before .if2 .taken)
     ∙ other _ _ (elsewhere (i .before))
 
 refused-requires-3 : tie.Need-refused-requires-3
@@ -79,7 +73,7 @@ returns-3 c =
     let o = a .out .now in
     λ f z.
     ap (λ (r : Answered). toldAnswer r (arrays b f) o) (c .refused3 .ensures)
-    ∙ message-by (syncOf (a .self) (arrays b f)) (a .time) (a .payload .now) (length o) o (refuse 13) (sized (a .self) (arrays b f) z) (judged _ _ (sound-yes (a .self) (arrays b f) (i .is-sound .ensures) (c .before .before .if2 .left)) ∙ message-far (a .time) (a .payload .now) (length o) _ (c .before .if3 .taken))
+    ∙ message-13 (a .self) (a .time) (a .payload .now) o (arrays b f) z (i .is-sound .ensures) (c .before .before .if2 .left) (c .before .if3 .taken)
     ∙ other _ _ (elsewhere (i .before))
 
 refused-requires-4 : tie.Need-refused-requires-4
@@ -93,7 +87,7 @@ returns-4 c =
     let o = a .out .now in
     λ f z.
     ap (λ (r : Answered). toldAnswer r (arrays b f) o) (c .refused4 .ensures)
-    ∙ message-by (syncOf (a .self) (arrays b f)) (a .time) (a .payload .now) (length o) o (refuse 6) (sized (a .self) (arrays b f) z) (judged _ _ (sound-yes (a .self) (arrays b f) (i .is-sound .ensures) (c .before .before .before .if2 .left)) ∙ message-long (a .time) (a .payload .now) (length o) _ (c .before .before .if3 .left) (c .before .if4 .taken))
+    ∙ message-6 (a .self) (a .time) (a .payload .now) o (arrays b f) z (i .is-sound .ensures) (c .before .before .before .if2 .left) (c .before .before .if3 .left) (c .before .if4 .taken)
     ∙ other _ _ (elsewhere (i .before))
 
 refused-requires-5 : tie.Need-refused-requires-5
@@ -107,7 +101,7 @@ returns-5 c =
     let o = a .out .now in
     λ f z.
     ap (λ (r : Answered). toldAnswer r (arrays b f) o) (c .refused5 .ensures)
-    ∙ message-by (syncOf (a .self) (arrays b f)) (a .time) (a .payload .now) (length o) o (refuse 7) (sized (a .self) (arrays b f) z) (judged _ _ (sound-yes (a .self) (arrays b f) (i .is-sound .ensures) (c .before .before .before .before .if2 .left)) ∙ message-small (a .time) (a .payload .now) (length o) _ (c .before .before .before .if3 .left) (c .before .before .if4 .left) (c .before .if5 .taken))
+    ∙ message-7 (a .self) (a .time) (a .payload .now) o (arrays b f) z (i .is-sound .ensures) (c .before .before .before .before .if2 .left) (c .before .before .before .if3 .left) (c .before .before .if4 .left) (c .before .if5 .taken)
     ∙ other _ _ (elsewhere (i .before))
 
 is-full-requires : tie.Need-is-full-requires
@@ -130,9 +124,8 @@ returns-6 c =
     let o = a .out .now in
     λ f z.
     ap (λ (r : Answered). toldAnswer r (arrays b f) o) (c .refused6 .ensures)
-    ∙ message-by (syncOf (a .self) (arrays b f)) (a .time) (a .payload .now) (length o) o (refuse 14) (sized (a .self) (arrays b f) z)
-    (judged _ _ (sound-yes (a .self) (arrays b f) (i .is-sound .ensures) (e .before .before .before .if2 .left))
-    ∙ message-full (a .time) (a .payload .now) (length o) _ (e .before .before .if3 .left) (e .before .if4 .left) (e .if5 .left) (sym (u .is-full .ensures (arrays b f)) ∙ c .before .if6 .taken))
+    ∙ message-14 (a .self) (a .time) (a .payload .now) o (arrays b f) z (i .is-sound .ensures) (e .before .before .before .if2 .left) (e .before .before .if3 .left) (e .before .if4 .left) (e .if5 .left)
+    (sym (u .is-full .ensures (arrays b f)) ∙ c .before .if6 .taken)
     ∙ other _ _ (elsewhere (i .before))
 
 heard-requires : tie.Need-heard-requires
@@ -163,9 +156,8 @@ returns-7 c =
     λ f z.
     t .told .ensures (after h f)
     ∙ ap (λ (x : Stepped). wroteStep x o) (h .heard .ensures f)
-    ∙ message-by (syncOf (a .self) (arrays b f)) (a .time) (a .payload .now) (length o) o taken (sized (a .self) (arrays b f) z)
-    (judged _ _ (sound-yes (a .self) (arrays b f) (i .is-sound .ensures) (e .before .before .before .if2 .left))
-    ∙ message-taken (a .time) (a .payload .now) (length o) _ (e .before .before .if3 .left) (e .before .if4 .left) (e .if5 .left) (sym (u .is-full .ensures (arrays b f)) ∙ s .if6 .left))
+    ∙ message-0 (a .self) (a .time) (a .payload .now) o (arrays b f) z (i .is-sound .ensures) (e .before .before .before .if2 .left) (e .before .before .if3 .left) (e .before .if4 .left) (e .if5 .left)
+    (sym (u .is-full .ensures (arrays b f)) ∙ s .if6 .left)
     ∙ other _ _ (elsewhere (i .before))
 
 pub message-spec : {M : Type 1} → statement M

@@ -1,23 +1,18 @@
 -- `session::Numbers::part` meets its contract. Assumes nothing.
+use Prim.Native.Nat.{ℕ}
 use native.Mathlib.Omega.{arith}
 use mathlib.Core.Path.{_≡_, sym, ap, _∙_}
-use mathlib.Core.Bool.{true, false, not}
+use mathlib.Core.Bool.{true}
 use mathlib.Core.List.{List, []}
-use Prim.Native.Nat.{ℕ}
 use borrow.Author.Needs.{needs}
 use borrow.Author.Tests.{not-true, not-false}
-use lib.ListN.{length}
 use Rattle.lists.specs.declared.F2List.{F2List}
-use Rattle.lists.specs.Format2.{noParts}
-use Rattle.tx_list.specs.Reading.{Verdict, taken, refuse}
-use Rattle.tx_list.specs.Moves.{Moved}
 use Rattle.session.specs.declared.Parted.{Parted}
 use Rattle.session.specs.Sync.{Stepped, stepOf, wroteStep}
 use Rattle.session.specs.Lent.{Arrays, lent, syncOf, flatOf, toldParted, readsF2}
-use Rattle.session.specs.LentLaws.{sized, chosen, other}
+use Rattle.session.specs.LentLaws.{chosen, other}
 use Rattle.session.proofs.HeardLaws.{within, parts-formed, never-full, hears-part}
-use Rattle.session.proofs.CallLaws.{message-by, unsound, judged, message-far, message-long, message-small, message-taken}
-use Rattle.session.proofs.LentCalls.{sound-no, sound-yes}
+use Rattle.session.proofs.LentCalls.{sound-yes, message-16, message-13, message-6, message-7, message-0}
 use Rattle.session.proofs.Numbers.part.Statement.{statement}
 use Rattle.session.proofs.Numbers.part.Tie as tie
 
@@ -62,9 +57,8 @@ returns-2 c =
     let a = b .args in
     let o = a .out .now in
     λ u l s z.
-    let A = arrays b u l s (a .f2) in
     ap (λ (r : Parted). toldParted r (arrays b u l s) o) (c .refused-part2 .ensures)
-    ∙ message-by (syncOf (a .self) A) (a .time) (a .payload .now) (length o) o (refuse 16) (sized (a .self) A z) (unsound _ _ (sound-no (a .self) A (i .is-sound .ensures) (c .before .if2 .taken)))
+    ∙ message-16 (a .self) (a .time) (a .payload .now) o (arrays b u l s (a .f2)) z (i .is-sound .ensures) (c .before .if2 .taken)
     ∙ chosen _ _ (here (i .before))
 
 refused-part-requires-3 : tie.Need-refused-part-requires-3
@@ -77,9 +71,8 @@ returns-3 c =
     let a = b .args in
     let o = a .out .now in
     λ u l s z.
-    let A = arrays b u l s (a .f2) in
     ap (λ (r : Parted). toldParted r (arrays b u l s) o) (c .refused-part3 .ensures)
-    ∙ message-by (syncOf (a .self) A) (a .time) (a .payload .now) (length o) o (refuse 13) (sized (a .self) A z) (judged _ _ (sound-yes (a .self) A (i .is-sound .ensures) (c .before .before .if2 .left)) ∙ message-far (a .time) (a .payload .now) (length o) _ (c .before .if3 .taken))
+    ∙ message-13 (a .self) (a .time) (a .payload .now) o (arrays b u l s (a .f2)) z (i .is-sound .ensures) (c .before .before .if2 .left) (c .before .if3 .taken)
     ∙ chosen _ _ (here (i .before))
 
 refused-part-requires-4 : tie.Need-refused-part-requires-4
@@ -92,9 +85,8 @@ returns-4 c =
     let a = b .args in
     let o = a .out .now in
     λ u l s z.
-    let A = arrays b u l s (a .f2) in
     ap (λ (r : Parted). toldParted r (arrays b u l s) o) (c .refused-part4 .ensures)
-    ∙ message-by (syncOf (a .self) A) (a .time) (a .payload .now) (length o) o (refuse 6) (sized (a .self) A z) (judged _ _ (sound-yes (a .self) A (i .is-sound .ensures) (c .before .before .before .if2 .left)) ∙ message-long (a .time) (a .payload .now) (length o) _ (c .before .before .if3 .left) (c .before .if4 .taken))
+    ∙ message-6 (a .self) (a .time) (a .payload .now) o (arrays b u l s (a .f2)) z (i .is-sound .ensures) (c .before .before .before .if2 .left) (c .before .before .if3 .left) (c .before .if4 .taken)
     ∙ chosen _ _ (here (i .before))
 
 refused-part-requires-5 : tie.Need-refused-part-requires-5
@@ -107,9 +99,8 @@ returns-5 c =
     let a = b .args in
     let o = a .out .now in
     λ u l s z.
-    let A = arrays b u l s (a .f2) in
     ap (λ (r : Parted). toldParted r (arrays b u l s) o) (c .refused-part5 .ensures)
-    ∙ message-by (syncOf (a .self) A) (a .time) (a .payload .now) (length o) o (refuse 7) (sized (a .self) A z) (judged _ _ (sound-yes (a .self) A (i .is-sound .ensures) (c .before .before .before .before .if2 .left)) ∙ message-small (a .time) (a .payload .now) (length o) _ (c .before .before .before .if3 .left) (c .before .before .if4 .left) (c .before .if5 .taken))
+    ∙ message-7 (a .self) (a .time) (a .payload .now) o (arrays b u l s (a .f2)) z (i .is-sound .ensures) (c .before .before .before .before .if2 .left) (c .before .before .before .if3 .left) (c .before .before .if4 .left) (c .before .if5 .taken)
     ∙ chosen _ _ (here (i .before))
 
 on-f2-requires : tie.Need-on-f2-requires
@@ -141,9 +132,8 @@ returns-6 c =
     let A = arrays b u l s (a .f2) in
     t .told-part .ensures (after h u l s)
     ∙ ap (λ (x : Stepped). wroteStep x o) (h .on-f2 .ensures u l s ∙ ap stepOf (hears-part (a .self .state) (flatOf (a .self) A) (a .time) (a .payload .now) (here (i .before))))
-    ∙ message-by (syncOf (a .self) A) (a .time) (a .payload .now) (length o) o taken (sized (a .self) A z)
-    (judged _ _ (sound-yes (a .self) A (i .is-sound .ensures) (e .before .before .before .if2 .left))
-    ∙ message-taken (a .time) (a .payload .now) (length o) _ (e .before .before .if3 .left) (e .before .if4 .left) (e .if5 .left) (never-full (a .self .state) (flatOf (a .self) A) (a .payload .now) (here (i .before))))
+    ∙ message-0 (a .self) (a .time) (a .payload .now) o A z (i .is-sound .ensures) (e .before .before .before .if2 .left) (e .before .before .if3 .left) (e .before .if4 .left) (e .if5 .left)
+    (never-full (a .self .state) (flatOf (a .self) A) (a .payload .now) (here (i .before)))
     ∙ chosen _ _ (here (i .before))
 
 pub part-spec : {M : Type 1} → statement M

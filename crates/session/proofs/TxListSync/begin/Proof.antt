@@ -1,41 +1,32 @@
-use mathlib.Core.Path.{_≡_, sym, _∙_, ap}
+-- `session::TxListSync::begin` meets its contract. Assumes nothing.
+use mathlib.Core.Path.{sym, _∙_, ap}
 use borrow.Author.Tests.{not-true, not-false}
+use borrow.Author.Needs.{needs}
 use Rattle.tx_list.specs.Reading.{taken, refuse}
 use Rattle.session.specs.declared.TxListSync.{TxListSync}
 use Rattle.session.specs.declared.Begun.{Begun}
 use Rattle.session.specs.Sync.{recordOf}
 use Rattle.session.proofs.CallLaws.{begin-by, LearnedSized, begin-over, begin-record, begin-taken, record-counts}
-use borrow.Author.Needs.{needs}
 use Rattle.session.proofs.TxListSync.begin.Statement.{statement}
 use Rattle.session.proofs.TxListSync.begin.Tie as tie
-use Rattle.session.proofs.TxListSync.begin.Reads as reads
-use Rattle.session.proofs.TxListSync.begin.Lts as lts
-use Rattle.session.proofs.opening.new_sync.Reads as new-sync-reads
-use Rattle.session.proofs.opening.refused_begin.Reads as refused-begin-reads
-use Rattle.session.proofs.sound.record_fits.Reads as record-fits-reads
 
 sized : (c : tie.Start) → LearnedSized (c .args .learned)
 sized c = record { saved-256 = search needs; present-256 = search needs; refused-256 = search needs }
 
--- src/lib.rt:113:13
 refused-begin-requires : tie.Need-refused-begin-requires
 refused-begin-requires c κs = search needs
 
--- src/lib.rt:113:13
 returns : tie.Need-returns
 returns c =
     let b = c .before .before .before in
     c .refused-begin .ensures ∙ begin-by (b .args .wanted .now) (recordOf (b .args .learned)) (refuse 11) (begin-over (b .args .wanted .now) (b .args .learned) (c .before .if1 .taken))
 
--- src/lib.rt:115:13
 record-fits-requires : tie.Need-record-fits-requires
 record-fits-requires c κs = search needs
 
--- src/lib.rt:116:13
 refused-begin-requires-2 : tie.Need-refused-begin-requires-2
 refused-begin-requires-2 c κs = search needs
 
--- src/lib.rt:116:13
 returns-2 : tie.Need-returns-2
 returns-2 c =
     let b = c .before .before .before .before .before in
@@ -43,13 +34,11 @@ returns-2 c =
     ∙ begin-by (b .args .wanted .now) (recordOf (b .args .learned)) (refuse 12)
     (begin-record (b .args .wanted .now) (b .args .learned) (sized b) (c .before .before .before .if1 .left) (sym (c .before .before .record-fits .ensures) ∙ not-true _ (c .before .if2 .taken)))
 
--- src/lib.rt:118:13
 new-sync-requires : tie.Need-new-sync-requires
 new-sync-requires c κs =
     let r = record-counts (c .before .before .before .before .args .learned) (sym (c .before .record-fits .ensures) ∙ not-false _ (c .if2 .left)) in
     (c .before .before .if1 .left, r .0, r .1, r .2)
 
--- src/lib.rt:109:5
 returns-3 : tie.Need-returns-3
 returns-3 c =
     let b = c .before .before .before .before .before in

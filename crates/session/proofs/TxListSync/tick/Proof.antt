@@ -1,8 +1,8 @@
 -- `session::TxListSync::tick` meets its contract. Assumes nothing.
 use mathlib.Core.Path.{ap, _∙_}
 use borrow.Author.Needs.{needs}
-use Rattle.tx_list.specs.Reading as model
 use lib.ListN.{length}
+use Rattle.tx_list.specs.Reading as model
 use Rattle.session.specs.declared.Called.{Called}
 use Rattle.session.specs.Sync.{toldCalled}
 use Rattle.session.specs.Lent.{arraysOf}

@@ -1,8 +1,8 @@
 -- `session::answers::on_enable` meets its contract. Assumes nothing.
+use Prim.Native.Nat.{ℕ}
 use native.Mathlib.Omega.{arith}
 use mathlib.Core.Path.{refl, ap, sym, _∙_}
 use mathlib.Core.List.{List, []}
-use Prim.Native.Nat.{ℕ}
 use borrow.Author.Needs.{needs}
 use Rattle.lists.specs.declared.F2List.{F2List}
 use Rattle.lists.specs.Format2.{noParts}

@@ -2,10 +2,10 @@
 use Prim.Native.Nat.{ℕ}
 use native.Mathlib.Omega.{arith}
 use mathlib.Core.Path.{refl, ap, sym, _∙_}
-use Rattle.views.specs.ViewsLaws.{starts-at, starts-not}
 use mathlib.Core.Bool.{true, false}
 use mathlib.Core.List.{List}
 use borrow.Author.Needs.{needs}
+use Rattle.views.specs.ViewsLaws.{starts-at, starts-not}
 use Rattle.lists.specs.Format2.{addSupported, addEnabled}
 use Rattle.session.specs.ReadingLaws.{put-as}
 use Rattle.session.proofs.parts.put_part.Statement.{statement}

@@ -5,8 +5,7 @@ use borrow.Author.Needs.{needs}
 use Rattle.session.specs.declared.Totals.{Totals}
 use Rattle.session.specs.declared.Numbers.{Numbers}
 use Rattle.session.specs.Sync.{Stepped}
-use Rattle.session.specs.Lent.{lent, syncOf}
-use Rattle.session.specs.LentReading.{awaiting}
+use Rattle.session.specs.Lent.{lent, syncOf, awaiting}
 use Rattle.session.proofs.parts.store_part.Statement.{statement}
 use Rattle.session.proofs.parts.store_part.Tie as tie
 

@@ -1,7 +1,7 @@
 -- `session::reading::got` meets its contract. Assumes nothing.
-use native.Mathlib.Omega.{arith}
 use Prim.Native.Nat.{_≤_, _+_}
-use mathlib.Core.Path.{_≡_, ap}
+use native.Mathlib.Omega.{arith}
+use mathlib.Core.Path.{ap}
 use borrow.Author.Needs.{needs}
 use Rattle.session.specs.declared.Totals.{Totals}
 use Rattle.session.specs.LentReading.{got-in}

@@ -1,6 +1,6 @@
 -- `session::reading::know` meets its contract. Assumes nothing.
-use mathlib.Core.Path.{ap}
 use Prim.Native.Nat.{ℕ}
+use mathlib.Core.Path.{ap}
 use borrow.Author.Needs.{needs}
 use Rattle.tx_list.specs.Memory.{Buf}
 use Rattle.session.specs.Lent.{knownTotals}

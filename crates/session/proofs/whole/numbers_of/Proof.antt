@@ -1,10 +1,7 @@
 -- `session::whole::numbers_of` meets its contract. Assumes nothing.
-use mathlib.Core.Path.{_≡_, ap}
-use mathlib.Core.Bool.{false}
+use mathlib.Core.Path.{_≡_}
 use borrow.Author.Needs.{needs}
 use lib.ListN.{length}
-use Rattle.bounds.specs.declared.Counts.{Counts}
-use Rattle.session.specs.declared.Numbers.{Numbers}
 use Rattle.session.specs.Lent.{Fits, arraysOf}
 use Rattle.session.proofs.whole.numbers_of.Statement.{statement}
 use Rattle.session.proofs.whole.numbers_of.Tie as tie
