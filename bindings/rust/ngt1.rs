@@ -53,6 +53,14 @@ unsafe extern "C" {
         payload_len: usize,
         room: usize,
     ) -> bool;
+    fn ngt1_session_add(
+        n: *mut [u64; 17],
+        list: *mut [u32; 1024],
+        time: u64,
+        payload: *const u8,
+        payload_len: usize,
+        room: usize,
+    ) -> bool;
     fn ngt1_session_message(
         n: *mut [u64; 17],
         wanted: *mut [u32; 64],
@@ -381,6 +389,7 @@ const PRESENT: usize = 9;
 const REFUSED: usize = 10;
 
 /// Phases.
+const READING_F1: u64 = 2;
 const READING_F2: u64 = 3;
 const DONE: u64 = 7;
 
@@ -438,7 +447,13 @@ impl Session {
     /// The payload of a message A0 of the gateway.
     pub fn message(&mut self, time: u64, payload: &[u8], out: &mut [u8]) -> Sent {
         unsafe {
-            if ngt1_session_ignores(&self.numbers, time, payload.as_ptr(), payload.len(), out.len()) {
+            let (bytes, len) = (payload.as_ptr(), payload.len());
+            if self.numbers[PHASE] == READING_F1
+                && ngt1_session_add(&mut self.numbers, &mut self.list, time, bytes, len, out.len())
+            {
+                return Ok(0);
+            }
+            if ngt1_session_ignores(&self.numbers, time, bytes, len, out.len()) {
                 return Ok(0);
             }
             if self.numbers[PHASE] == READING_F2 {
@@ -451,8 +466,8 @@ impl Session {
                     &mut self.present,
                     &mut self.refused,
                     time,
-                    payload.as_ptr(),
-                    payload.len(),
+                    bytes,
+                    len,
                     out.as_mut_ptr(),
                     out.len(),
                 );
@@ -470,8 +485,8 @@ impl Session {
                 &mut self.present,
                 &mut self.refused,
                 time,
-                payload.as_ptr(),
-                payload.len(),
+                bytes,
+                len,
                 out.as_mut_ptr(),
                 out.len(),
             );

@@ -29,12 +29,12 @@ use Rattle.session.specs.declared.Numbers.{Numbers}
 use Rattle.tx_list.specs.Reading.{tick, message, taken}
 use Rattle.session.specs.Sync.{kind, Told, called, Stepped, stepOf, wroteStep}
 use Rattle.session.specs.LentLaws.{sized, sound-flat, other}
-use Rattle.session.specs.LentReading.{awaiting, listing, adds-in}
+use Rattle.session.specs.LentReading.{listing, adds-in}
 use Rattle.session.proofs.CallLaws.{message-by, judged, message-taken}
 use Rattle.session.proofs.HeardLaws.{by-state, hears-f1}
 use Rattle.session.proofs.LentCalls.{idle-quiet, ignored-quiet}
 use Rattle.session.specs.Sound.{helm}
-use Rattle.session.specs.Lent.{Arrays, Fits, lent, syncOf, flatOf, readsF2, uncounted, soundFor, waitsIn, dueAt, mindsIn, idleAt, ignoredAt}
+use Rattle.session.specs.Lent.{Arrays, Fits, lent, syncOf, flatOf, awaiting, readsF2, uncounted, soundFor, waitsIn, dueAt, mindsIn, idleAt, ignoredAt}
 use Rattle.ngt1.specs.Session.{isSet, one, calm, dueIn, ignoresOn, hears, addedOn, addsOn, stateOf, phaseOf, attemptOf, numbersIn, numbersAs, answers, renews, asks}
 
 -- a list as long as the one it is written over takes its place
