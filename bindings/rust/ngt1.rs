@@ -439,12 +439,14 @@ impl Session {
     }
 
     /// The passing of time.
+    #[inline]
     pub fn tick(&mut self, time: u64, out: &mut [u8]) -> Sent {
         let a = unsafe { ngt1_session_tick(&mut self.numbers, time, out.as_mut_ptr(), out.len()) };
         sent(a.number, a.count)
     }
 
     /// The payload of a message A0 of the gateway.
+    #[inline]
     pub fn message(&mut self, time: u64, payload: &[u8], out: &mut [u8]) -> Sent {
         unsafe {
             let (bytes, len) = (payload.as_ptr(), payload.len());
@@ -500,6 +502,7 @@ impl Session {
     }
 
     /// Whether the gateway's list, once read, lacks the PGN, so that it would drop a frame of it. Refusal: 16.
+    #[inline]
     pub fn lacks(&self, pgn: u32) -> Result<Lacks, u8> {
         match unsafe { ngt1_session_lacks(&self.numbers, &self.known, pgn) } {
             0 => Ok(Lacks::Nothing),
