@@ -145,6 +145,14 @@ calm n =
 abbrev pub dueIn : ℕ → ℕ → ℕ → Bool
 dueIn p deadline t = leb deadline t && (not (eqb p 0) && ltb p 7)
 
+-- a message starts with none of the bytes that are of interest in any phase
+unfoldable pub unheeded : List ℕ → Bool
+unheeded m =
+    not (eqb (getD m 0 0) 0x01)
+    && (not (eqb (getD m 0 0) 0x11)
+    && (not (eqb (getD m 0 0) 0x40)
+    && (not (eqb (getD m 0 0) 0x47) && (not (eqb (getD m 0 0) 0x49) && (not (eqb (getD m 0 0) 0x4B) && not (eqb (getD m 0 0) 0x4F))))))
+
 -- a message would be taken and change nothing, told by one look
 unfoldable pub ignoresOn : List ℕ → ℕ → List ℕ → ℕ → Bool
 ignoresOn n t m room =

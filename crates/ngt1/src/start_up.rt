@@ -21,7 +21,7 @@ ghost use lib.ListN.{length, getD, set};
 ghost use Rattle.tx_list.specs.Reading as model;
 ghost use Rattle.session.specs.Sync.{called, setTo, restarted, abandoned, lackOf, toldLacks};
 ghost use Rattle.session.specs.Lent.{Arrays, Fits, lent, syncOf, begunIn, mindsIn};
-ghost use Rattle.ngt1.specs.Session.{isSet, one, calm, dueIn, addedOn, addsOn, stateOf, phaseOf, attemptOf, numbersIn, toldOn, toldPartOn, answers, hears, hearsPart, ignoresOn, renewedOn, renews, lackNumber, asks};
+ghost use Rattle.ngt1.specs.Session.{isSet, one, calm, dueIn, unheeded, addedOn, addsOn, stateOf, phaseOf, attemptOf, numbersIn, toldOn, toldPartOn, answers, hears, hearsPart, ignoresOn, renewedOn, renews, lackNumber, asks};
 
 // What a call answers: 0 or the refusal's number, and how many bytes were written.
 #[repr(C)]
@@ -198,10 +198,23 @@ fn is_due(phase: u64, deadline: u64, time: u64) -> bool
     (deadline <= time) & ((phase != 0) & (phase < 7))
 }
 
+// Whether a message starts with none of the bytes that are of interest in any phase.
+fn is_unheeded(payload: &[u8]) -> bool
+    ensures { λ r. ⌜ r ≡ unheeded (now (payload .entry)) ⌝ }
+{
+    let b = field::byte_at(payload, 0);
+    (b != 0x01)
+        & ((b != 0x11)
+            & ((b != 0x40) & ((b != 0x47) & ((b != 0x49) & ((b != 0x4B) & (b != 0x4F))))))
+}
+
 // Whether a message is of interest in this phase.
 fn minds(phase: u64, payload: &[u8]) -> bool
     ensures { λ r. ⌜ r ≡ mindsIn (stateOf phase 0) (now (payload .entry)) ⌝ }
 {
+    if is_unheeded(payload) {
+        return false;
+    }
     match phase {
         0 => views::is_mode(payload),
         1 => false,
