@@ -1,5 +1,5 @@
 /* Encodes A1 41, feeds the frame and a damaged copy of it in two pieces, and prints the events; then reads a record and a
- * Format 2 list. Exit status 1: not as expected. */
+ * Format 2 list, and has two gateways transmit PGN 126983. Exit status 1: not as expected. */
 #include "ngt1.h"
 #include <stdio.h>
 #include <string.h>
@@ -119,6 +119,70 @@ static void lists(void)
     expect(l.number == 0 && l.count == 2 && out[0] == 126993 && out[1] == 65281 && out[2] == 0, "Format 2 list");
 }
 
+static ngt1_session session; /* all 0 */
+static uint8_t sent[NGT1_MAX_SENT];
+
+/* a reply of the gateway with no error; how many bytes the session sends, or 1000 and the refusal's number */
+static uint64_t hear(uint8_t bem, uint8_t sequence, const uint8_t *data, size_t len, uint64_t time)
+{
+    uint8_t payload[255] = { 0 };
+    ngt1_answer a;
+    payload[0] = bem;
+    payload[1] = sequence;
+    memcpy(payload + 12, data, len);
+    a = ngt1_session_hear(&session, time, payload, 12 + len, sent, sizeof sent);
+    return a.number == 0 ? a.count : 1000 + a.number;
+}
+
+/* the answers to enable, commit and activate: 126983 is enabled and saved */
+static void saves(uint64_t time)
+{
+    static const uint8_t none[14] = { 0 };
+    expect(sent[0] == 0x10 && sent[4] == 0x47, "enable is sent");
+    expect(hear(0x47, 1, none, 14, time) > 0 && sent[4] == 0x01, "commit is sent");
+    expect(hear(0x01, 1, none, 0, time) > 0 && sent[4] == 0x4B, "activate is sent");
+    expect(hear(0x4B, 1, none, 0, time) == 0 && session.numbers[0] == NGT1_SESSION_DONE, "done");
+    expect(session.numbers[8] == 1 && session.saved[0] == 126983, "saved");
+    expect(ngt1_session_lacks(session.numbers, session.known, 126983) == 0, "126983 is there");
+}
+
+/* a gateway that tells its list in Format 1, then one in Format 2 */
+static void sessions(void)
+{
+    static const uint32_t want[] = { 126983 };
+    static const uint8_t mode[] = { 2, 0 };
+    static const uint8_t list[] = { 1, 0x11, 0xF0, 1, 0 };
+    static const uint8_t supported[] = { 0, 0, 0x11, 0, 0, 0, 0, 2, 0, 2, 7, 0x07, 0xF0, 1, 9, 0x11, 0xF0, 1 };
+    static const uint8_t enabled[] = { 0, 2, 0x11, 0, 0, 1, 0, 1, 9, 6, 0, 0 };
+    static const uint8_t proprietary[] = { 0, 3, 0x11, 0, 0, 1, 2, 0 };
+    static const uint32_t many[65] = { 0 };
+    expect(ngt1_session_begin(session.numbers, session.wanted, many, 65) == NGT1_OVER_WANTED, "refusal 11");
+    expect(ngt1_session_begin(session.numbers, session.wanted, want, 1) == 0, "begin");
+    expect(hear(0x11, 1, mode, 2, 0) == 0, "the mode");
+    expect(ngt1_session_tick(session.numbers, 1999, sent, sizeof sent).count == 0, "not due");
+    expect(ngt1_session_tick(session.numbers, 2000, sent, 31).number == NGT1_NO_ROOM, "output of 31");
+    expect(ngt1_session_tick(session.numbers, 2000, sent, sizeof sent).count == 8 && sent[4] == 0x49, "Format 1 is asked for");
+    expect(hear(0x41, 1, mode, 2, 2001) == 0, "of no interest");
+    expect(hear(0x49, 1, list, 5, 2001) == 0 && session.numbers[5] == 1, "a list of one");
+    expect(hear(0x49, 4, list, 0, 2001) > 0, "the list has ended");
+    expect(ngt1_session_lacks(session.numbers, session.known, 126983) == 2, "126983 lacks from a partial list");
+    saves(2002);
+
+    memset(&session, 0, sizeof session);
+    expect(ngt1_session_begin(session.numbers, session.wanted, want, 1) == 0, "begin");
+    expect(ngt1_session_firmware(session.numbers, 2690) == 0, "firmware");
+    expect(hear(0x11, 1, mode, 2, 0) == 0, "the mode");
+    expect(ngt1_session_tick(session.numbers, 2000, sent, sizeof sent).count == 16, "Format 2 is asked for");
+    expect(hear(0x40, 1, supported, sizeof supported, 2001) == 0, "supported");
+    expect(hear(0x4F, 2, proprietary, sizeof proprietary, 2001) == 0, "proprietary");
+    expect(hear(0x4F, 1, enabled, sizeof enabled, 2001) > 0, "enabled");
+    expect(session.numbers[7] == 2 && session.known[0] == 126993 && session.known[1] == 65281, "known");
+    expect(ngt1_session_lacks(session.numbers, session.known, 126983) == 1, "126983 lacks from the whole list");
+    saves(2002);
+    session.numbers[0] = 8;
+    expect(ngt1_session_tick(session.numbers, 2000, sent, sizeof sent).number == NGT1_NOT_FORMED, "no such phase");
+}
+
 int main(void)
 {
     static const uint8_t want[] = { 0x10, 0x02, 0xA1, 0x01, 0x41, 0x1D, 0x10, 0x03 };
@@ -141,5 +205,6 @@ int main(void)
     refusals();
     records();
     lists();
+    sessions();
     return failed;
 }

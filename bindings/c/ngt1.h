@@ -1,5 +1,6 @@
 /*
- * NGT-1 framing (messages into frames, bytes into events), N2K records and Format 2 lists. Links with libngt1.a.
+ * NGT-1 framing (messages into frames, bytes into events), N2K records, Format 2 lists and the start-up session.
+ * Links with libngt1.a.
  *
  * One convention for every function:
  *   - A slice is a pointer and a length in elements. The pointer is not NULL and has as many elements as the length says,
@@ -7,7 +8,8 @@
  *   - Results go into the first places of `answer`. Where `answer` has fewer places than the function needs, nothing at all
  *     is done, no lent byte changes, and 0 is returned; else 1 is returned. Places after those named keep their contents.
  *   - No function keeps anything between calls: a decoder is a phase, a count and a buffer, which the caller keeps, and the
- *     parts of a Format 2 read are a value that goes in and comes back.
+ *     parts of a Format 2 read are a value that goes in and comes back. A session stands in the caller's memory, and a call
+ *     changes there what it changes; its functions answer by value.
  */
 #ifndef NGT1_H
 #define NGT1_H
@@ -55,6 +57,10 @@ extern "C" {
 #define NGT1_TOO_SHORT 8   /* record: the payload is under 11 bytes */
 #define NGT1_NO_RECORD 9   /* record: the command is not 93 */
 #define NGT1_DATA_PAST 10  /* record: the data pass the payload's end */
+#define NGT1_OVER_WANTED 11 /* session: over 64 PGNs are wanted */
+#define NGT1_OVER_RECORD 12 /* session: a list of the record is over 192 */
+#define NGT1_TIME_OVER 13   /* session: the time is over 18446744073709541615 */
+#define NGT1_OVER_LIST 14   /* session: the Format 1 list would pass 1024 */
 #define NGT1_NOT_FORMED 16 /* decoder: the count is over 1024, or the phase over 3; list: the proprietary count is over 512 */
 
 /* What there is of a Format 2 list, beside 0 and the refusals. */
@@ -164,6 +170,99 @@ typedef struct {
 
 /* Writes the PGNs of the list at the start of out, once all three parts are in hand; what stands after them is kept. */
 ngt1_listed ngt1_parts_pgns(ngt1_parts parts, uint32_t *out, size_t out_len);
+
+/*
+ * A start-up session: has the gateway transmit the PGNs that are wanted. Times are milliseconds of a clock that is not set back.
+ * Set all of it to 0 once, then call ngt1_session_begin; later sessions go on in the same memory and keep what was learnt.
+ * numbers: 0 phase (NGT1_SESSION_DONE: it has ended), 1 attempt, counts of 2 wanted, 3 owed, 4 fresh, 5 list, 6 proprietary,
+ * 7 known, 8 saved, 9 present, 10 refused; 11 due time; 12 a list is known, 13 and whole; 14 the firmware was told, 15 its
+ * version times 1000; 16 no part of Format 2 is in hand. Read them; write none.
+ */
+typedef struct {
+    uint64_t numbers[17];
+    uint32_t wanted[64];
+    uint32_t owed[64];
+    uint32_t fresh[64];
+    uint32_t list[1024];
+    uint32_t known[1344];   /* the gateway's list, with what was enabled since */
+    uint32_t saved[256];    /* what the gateway confirmed as saved, */
+    uint32_t present[256];  /* as already there, */
+    uint32_t refused[256];  /* and what it refused */
+    ngt1_parts parts;
+} ngt1_session;
+
+#define NGT1_SESSION_READS_F1 2
+#define NGT1_SESSION_READS_F2 3
+#define NGT1_SESSION_DONE 7
+#define NGT1_MAX_SENT 32 /* a session's output, at least */
+
+/* number: 0, or a refusal; count: how many bytes there are to send, at the start of out. */
+typedef struct {
+    uint64_t number;
+    uint64_t count;
+} ngt1_answer;
+
+typedef struct {
+    uint64_t number;
+    uint64_t count;
+    ngt1_parts parts;
+} ngt1_part_answer;
+
+/* A session that wants these PGNs, with the record that stands in saved, present and refused. 0, or 16, 11, 12. */
+uint64_t ngt1_session_begin(uint64_t numbers[17], uint32_t wanted[64], const uint32_t *want, size_t want_len);
+
+/* The session from its start, as after a restart of the gateway. 0, or 16, 12. */
+uint64_t ngt1_session_restart(uint64_t numbers[17]);
+
+/* The gateway's firmware version times 1000, from its product information. 0, or 16. */
+uint64_t ngt1_session_firmware(uint64_t numbers[17], uint16_t version);
+
+/* The gateway has no list to set. 0, or 16. */
+uint64_t ngt1_session_abandon(uint64_t numbers[17]);
+
+/* The passing of time. Refusals: 16, 13, 7. */
+ngt1_answer ngt1_session_tick(uint64_t numbers[17], uint64_t time, uint8_t *out, size_t out_len);
+
+/* What the list says of a PGN: 0 nothing, 1 that it lacks from a whole list, 2 from a partial one, or 16. */
+uint64_t ngt1_session_lacks(const uint64_t numbers[17], const uint32_t known[1344], uint32_t pgn);
+
+/*
+ * A message of the gateway: use ngt1_session_hear below, which calls these.
+ *   ignores  true: the message would change nothing; false says nothing
+ *   add      true: it was PGNs more of a Format 1 list, and all is done; false: nothing was done
+ *   message  in every phase but the reading of Format 2, part in that phase; the other answers 100 and does nothing
+ * Refusals: 16, 13, 6, 7, 14.
+ */
+bool ngt1_session_ignores(const uint64_t numbers[17], uint64_t time, const uint8_t *payload, size_t payload_len, size_t room);
+bool ngt1_session_add(uint64_t numbers[17], uint32_t list[1024], uint64_t time, const uint8_t *payload, size_t payload_len, size_t room);
+ngt1_answer ngt1_session_message(uint64_t numbers[17], uint32_t wanted[64], uint32_t owed[64], uint32_t fresh[64],
+                                 uint32_t list[1024], uint32_t known[1344], uint32_t saved[256], uint32_t present[256],
+                                 uint32_t refused[256], uint64_t time, const uint8_t *payload, size_t payload_len,
+                                 uint8_t *out, size_t out_len);
+ngt1_part_answer ngt1_session_part(uint64_t numbers[17], ngt1_parts parts, uint32_t wanted[64], uint32_t owed[64],
+                                   uint32_t known[1344], uint32_t present[256], uint32_t refused[256], uint64_t time,
+                                   const uint8_t *payload, size_t payload_len, uint8_t *out, size_t out_len);
+
+/* The payload of a message A0 of the gateway. */
+static inline ngt1_answer ngt1_session_hear(ngt1_session *s, uint64_t time, const uint8_t *payload, size_t payload_len,
+                                            uint8_t *out, size_t out_len)
+{
+    ngt1_answer none = { 0, 0 };
+    if (s->numbers[0] == NGT1_SESSION_READS_F1 && ngt1_session_add(s->numbers, s->list, time, payload, payload_len, out_len))
+        return none;
+    if (ngt1_session_ignores(s->numbers, time, payload, payload_len, out_len))
+        return none;
+    if (s->numbers[0] == NGT1_SESSION_READS_F2) {
+        ngt1_part_answer a = ngt1_session_part(s->numbers, s->parts, s->wanted, s->owed, s->known, s->present, s->refused, time,
+                                               payload, payload_len, out, out_len);
+        s->parts = a.parts;
+        none.number = a.number;
+        none.count = a.count;
+        return none;
+    }
+    return ngt1_session_message(s->numbers, s->wanted, s->owed, s->fresh, s->list, s->known, s->saved, s->present, s->refused, time,
+                                payload, payload_len, out, out_len);
+}
 
 #ifdef __cplusplus
 }

@@ -448,18 +448,22 @@ impl Session {
     /// The payload of a message A0 of the gateway.
     #[inline]
     pub fn message(&mut self, time: u64, payload: &[u8], out: &mut [u8]) -> Sent {
-        unsafe {
-            let (bytes, len) = (payload.as_ptr(), payload.len());
-            if self.numbers[PHASE] == READING_F1
+        let (bytes, len) = (payload.as_ptr(), payload.len());
+        let ready = unsafe {
+            self.numbers[PHASE] == READING_F1
                 && ngt1_session_add(&mut self.numbers, &mut self.list, time, bytes, len, out.len())
-            {
-                return Ok(0);
-            }
-            if ngt1_session_ignores(&self.numbers, time, bytes, len, out.len()) {
-                return Ok(0);
-            }
-            if self.numbers[PHASE] == READING_F2 {
-                let a = ngt1_session_part(
+                || ngt1_session_ignores(&self.numbers, time, bytes, len, out.len())
+        };
+        if ready { Ok(0) } else { self.hear(time, payload, out) }
+    }
+
+    /// A message that may change something. Apart from the above, since its frame holds parts of a Format 2 read.
+    #[inline(never)]
+    fn hear(&mut self, time: u64, payload: &[u8], out: &mut [u8]) -> Sent {
+        let (bytes, len) = (payload.as_ptr(), payload.len());
+        if self.numbers[PHASE] == READING_F2 {
+            let a = unsafe {
+                ngt1_session_part(
                     &mut self.numbers,
                     self.parts,
                     &mut self.wanted,
@@ -472,11 +476,13 @@ impl Session {
                     len,
                     out.as_mut_ptr(),
                     out.len(),
-                );
-                self.parts = a.parts;
-                return sent(a.number, a.count);
-            }
-            let a = ngt1_session_message(
+                )
+            };
+            self.parts = a.parts;
+            return sent(a.number, a.count);
+        }
+        let a = unsafe {
+            ngt1_session_message(
                 &mut self.numbers,
                 &mut self.wanted,
                 &mut self.owed,
@@ -491,9 +497,9 @@ impl Session {
                 len,
                 out.as_mut_ptr(),
                 out.len(),
-            );
-            sent(a.number, a.count)
-        }
+            )
+        };
+        sent(a.number, a.count)
     }
 
     /// Whether the session has ended.
