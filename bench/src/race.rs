@@ -2,7 +2,7 @@
 use std::time::{Duration, Instant};
 
 /// How long a row is raced, and how many rounds it has at least.
-const ROW: Duration = Duration::from_millis(700);
+const ROW: Duration = Duration::from_millis(500);
 const ROUNDS: usize = 31;
 
 /// A side's work, done once over; what it answers is how long it took.
