@@ -18,12 +18,14 @@ command -v cargo >/dev/null 2>&1 || fail "no cargo here, so no Rust to race"
 
 build() { cargo build --release --offline --locked --quiet --manifest-path bench/Cargo.toml --target-dir bench/target "$@"; }
 
-# The library is made where it is missing or older than a source. The crates below the session are proved two at a time; the session is
+# The library is made where it is missing or older than a source. What it stands on is proved first, two crates at a time; the session is
 # proved alone, and the Rust is compiled beside it.
 lib=target/staticlib/libngt1.a
 mkdir -p target
 if [ ! -f "$lib" ] || [ -n "$(find crates.txt crates/*/src crates/*/specs crates/*/proofs -newer "$lib" -type f 2>/dev/null | head -n 1)" ]; then
-    rt staticlib ngt1 >target/bench.log 2>&1 &
+    below=$(sed -n 's/^ngt1: //p' crates.txt)
+    # shellcheck disable=SC2086
+    { rt check $below && rt staticlib ngt1; } >target/bench.log 2>&1 &
     port=$!
     while kill -0 "$port" 2>/dev/null && [ ! -f target/rlib/views.rlib ]; do sleep 1; done
     build --package oracle --lib || fail "the Rust does not build"
