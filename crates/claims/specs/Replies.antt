@@ -9,7 +9,7 @@ use Rattle.framing.specs.Stuffing.{Ready}
 use Rattle.replies.specs.Bem.{Response, responseOf}
 use Rattle.replies.specs.Layout.{layout, InRange, Whole}
 use Rattle.replies.specs.LayoutLaws.{read-layout, layout-read, only-reading}
-use Rattle.replies.specs.Delivered.{Arrives, arrives}
+use Rattle.claims.specs.Arrival.{Arrives, arrives}
 
 -- Every reply whose fields fit their bytes is read back from its layout.
 pub reading : (r : Response) → InRange r → responseOf (layout r) ≡ r

@@ -10,5 +10,4 @@ pub mod BemLaws
 pub mod StatusLaws
 -- Theorems.
 pub mod LayoutLaws
-pub mod Delivered
 pub mod Examples

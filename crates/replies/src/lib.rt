@@ -1,5 +1,5 @@
 // Replies of the gateway (Actisense BEM): a reply taken apart, the operating mode that it reports, and the start-up status.
-// This layer stands on `field` for its readers and on `framing` for its theorem of delivery; the session sees its contracts and laws only.
+// This layer stands on `field` for its readers and sees a payload alone; that a framed reply arrives is in claims/specs/Arrival. The session sees its contracts and laws only.
 // Number: refusal 8 (a reply under 12 bytes, start-up data under 3).
 mod bem; // bem.rt: a reply's header and its data
 mod mode; // mode.rt: operating modes
