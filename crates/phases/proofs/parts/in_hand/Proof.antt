@@ -1,0 +1,16 @@
+-- `phases::parts::in_hand` meets its contract. Assumes nothing.
+use borrow.Author.Needs.{needs}
+use Rattle.phases.proofs.parts.in_hand.Statement.{statement}
+use Rattle.phases.proofs.parts.in_hand.Tie as tie
+
+new-requires : tie.Need-new-requires
+new-requires c κs = search needs
+
+returns : tie.Need-returns
+returns c = rw (c .before .if1 .taken) (c .new .ensures)
+
+returns-2 : tie.Need-returns-2
+returns-2 c = rw (c .before .if1 .left)
+
+pub in-hand-spec : {M : Type 1} → statement M
+in-hand-spec = tie.close (tie.spec new-requires returns returns-2)

@@ -1,0 +1,272 @@
+-- A session in lent memory: its numbers, and the arrays that stand beside them; what each function over them leaves. Assumes nothing.
+use mathlib.Core.Path.{_≡_}
+use mathlib.Core.Bool.{Bool, true, false, not, _&&_}
+use mathlib.Core.List.{List}
+use Prim.Native.Nat.{ℕ, _+_}
+use lib.Dec.{leb, ltb}
+use lib.Seq.{sets}
+use lib.ListN.{length}
+use Rattle.field.specs.Pick.{pick}
+use Rattle.lists.specs.declared.F2List.{F2List}
+use Rattle.lists.specs.Format2.{noParts}
+use Rattle.bounds.specs.declared.Counts.{Counts}
+use Rattle.bounds.specs.Bounds.{soundAt}
+use Rattle.views.specs.Told.{isFormat2}
+use Rattle.tx_list.specs.Views.{starts, isMode}
+use Rattle.tx_list.specs.declared.State.{State}
+use Rattle.tx_list.specs.declared.State.the-variants.{AwaitStartup, ReadAt, ReadingF2, Reading as ReadingF1, Enabling, Committing, Activating, Done}
+use Rattle.phases.specs.Sync.{Sync, Begun, learnedIn, recordFits, commandsOf, Stepped, Told}
+use Rattle.phases.specs.declared.Totals.{Totals}
+use Rattle.phases.specs.declared.Numbers.{Numbers}
+use Rattle.phases.specs.declared.Answered.{Answered}
+use Rattle.phases.specs.declared.Parted.{Parted}
+use Rattle.phases.specs.declared.Renewed.{Renewed}
+use Rattle.phases.specs.declared.write.Step.{Step}
+use Rattle.phases.specs.declared.parts.PartStep.{PartStep}
+use Rattle.phases.specs.Sound.{helm, countsOf}
+
+-- the arrays, whole
+pub record Arrays : Type 0 where
+  pub wanted : List ℕ
+  pub owed : List ℕ
+  pub fresh : List ℕ
+  pub list : List ℕ
+  pub known : List ℕ
+  pub saved : List ℕ
+  pub present : List ℕ
+  pub refused : List ℕ
+  pub f2 : F2List
+
+abbrev pub lent : List ℕ → List ℕ → List ℕ → List ℕ → List ℕ → List ℕ → List ℕ → List ℕ → F2List → Arrays
+lent wanted owed fresh list known saved present refused f2 =
+    record {
+      wanted = wanted;
+      owed = owed;
+      fresh = fresh;
+      list = list;
+      known = known;
+      saved = saved;
+      present = present;
+      refused = refused;
+      f2 = f2;
+    }
+
+-- the arrays have their lengths
+pub record Fits (a : Arrays) : Type 0 where
+  pub wanted-64 : length (a .wanted) ≡ 64
+  pub owed-64 : length (a .owed) ≡ 64
+  pub fresh-64 : length (a .fresh) ≡ 64
+  pub list-1024 : length (a .list) ≡ 1024
+  pub known-1344 : length (a .known) ≡ 1344
+  pub saved-256 : length (a .saved) ≡ 256
+  pub present-256 : length (a .present) ≡ 256
+  pub refused-256 : length (a .refused) ≡ 256
+
+-- the parts of Format 2: none where the numbers say so; the count of proprietary PGNs stands among the numbers
+abbrev pub counted : ℕ → F2List → F2List
+counted n f =
+    record {
+      supported = f .supported;
+      enabled = f .enabled;
+      proprietary = record { told = f .proprietary .told; list = record { pgns = f .proprietary .list .pgns; n = n } };
+    }
+
+abbrev pub partsOf : Totals → F2List → F2List
+partsOf t f = pick (t .blank) noParts (counted (t .counts .proprietary) f)
+
+-- THE SESSION that the numbers and the arrays hold
+abbrev pub syncOf : Numbers → Arrays → Sync
+syncOf x a =
+    record {
+      state = x .state;
+      wanted = record { items = a .wanted; n = x .totals .counts .wanted };
+      owed = record { items = a .owed; n = x .totals .counts .owed };
+      fresh = record { items = a .fresh; n = x .totals .counts .fresh };
+      list = record { items = a .list; n = x .totals .counts .list };
+      f2 = partsOf (x .totals) (a .f2);
+      isKnown = x .totals .read;
+      complete = x .totals .complete;
+      known = record { items = a .known; n = x .totals .counts .known };
+      saved = record { items = a .saved; n = x .totals .counts .saved };
+      present = record { items = a .present; n = x .totals .counts .present };
+      refused = record { items = a .refused; n = x .totals .counts .refused };
+      deadline = x .totals .deadline;
+      told = x .totals .told;
+      version = x .totals .version;
+    }
+
+-- the numbers and the arrays of a session
+abbrev pub numbersOf : Sync → Numbers
+numbersOf s =
+    record {
+      state = s .state;
+      totals =
+          record {
+            counts = countsOf s;
+            deadline = s .deadline;
+            read = s .isKnown;
+            complete = s .complete;
+            told = s .told;
+            version = s .version;
+            blank = false;
+          };
+    }
+
+abbrev pub arraysOf : Sync → Arrays
+arraysOf s =
+    lent (s .wanted .items) (s .owed .items) (s .fresh .items) (s .list .items) (s .known .items) (s .saved .items) (s .present .items)
+    (s .refused .items) (s .f2)
+
+-- other counts of what a call changes: wanted and the record stay
+abbrev pub recount : Counts → ℕ → ℕ → ℕ → ℕ → ℕ → Counts
+recount c owed fresh list proprietary known =
+    record {
+      wanted = c .wanted;
+      owed = owed;
+      fresh = fresh;
+      list = list;
+      proprietary = proprietary;
+      known = known;
+      saved = c .saved;
+      present = c .present;
+      refused = c .refused;
+    }
+
+-- the same with a due time and flags: the firmware stays
+abbrev pub retotal : Totals → Counts → ℕ → Bool → Bool → Bool → Totals
+retotal t c deadline read complete blank =
+    record { counts = c; deadline = deadline; read = read; complete = complete; told = t .told; version = t .version; blank = blank }
+
+-- other counts alone
+abbrev pub counting : Totals → Counts → Totals
+counting t c = retotal t c (t .deadline) (t .read) (t .complete) (t .blank)
+
+-- a list of so many PGNs is known
+abbrev pub knownTotals : Totals → Bool → ℕ → Totals
+knownTotals t whole n =
+    let c = t .counts in
+    retotal t (recount c (c .owed) (c .fresh) (c .list) (c .proprietary) n) (t .deadline) true whole (t .blank)
+
+-- these parts of Format 2 are in hand
+abbrev pub holding : Totals → F2List → Totals
+holding t f =
+    let c = t .counts in
+    retotal t (recount c (c .owed) (c .fresh) (c .list) (f .proprietary .list .n) (c .known)) (t .deadline) (t .read) (t .complete) false
+
+-- another phase, with an answer awaited from a time on
+abbrev pub awaiting : Totals → State → ℕ → Numbers
+awaiting t st time = record { state = st; totals = retotal t (t .counts) (time + 10000) (t .read) (t .complete) (t .blank) }
+
+-- 16, by the numbers alone: where no part is in hand no proprietary PGN is
+abbrev pub uncounted : Counts → Counts
+uncounted c = recount c (c .owed) (c .fresh) (c .list) 0 (c .known)
+
+abbrev pub seen : Totals → Counts
+seen t = pick (t .blank) (uncounted (t .counts)) (t .counts)
+
+unfoldable pub soundFor : Numbers → Bool
+soundFor x = soundAt helm (seen (x .totals)) (x .state)
+
+-- a step's commands, and the session that it leaves in these arrays
+abbrev pub toldStep : Step → Arrays → Stepped
+toldStep r a = record { sent = commandsOf (r .sent); sync = syncOf (r .numbers) a }
+
+abbrev pub toldPart : PartStep → (F2List → Arrays) → Stepped
+toldPart r a = record { sent = commandsOf (r .sent); sync = syncOf (r .numbers) (a (r .f2)) }
+
+-- what a call leaves
+abbrev pub toldAnswer : Answered → Arrays → List ℕ → Told
+toldAnswer r a out = record { number = r .number; count = r .count; sync = syncOf (r .numbers) a; out = out }
+
+abbrev pub toldParted : Parted → (F2List → Arrays) → List ℕ → Told
+toldParted r a out = record { number = r .number; count = r .count; sync = syncOf (r .numbers) (a (r .f2)); out = out }
+
+abbrev pub toldRenewed : Renewed → Arrays → Begun
+toldRenewed r a = record { number = r .number; sync = syncOf (r .numbers) a }
+
+-- a tick at that time does something
+abbrev pub waitsIn : State → Bool
+waitsIn AwaitStartup = false
+waitsIn ReadAt = true
+waitsIn (ReadingF2 n) = true
+waitsIn (ReadingF1 n) = true
+waitsIn Enabling = true
+waitsIn Committing = true
+waitsIn Activating = true
+waitsIn Done = false
+
+unfoldable pub dueAt : Numbers → ℕ → Bool
+dueAt x t = leb (x .totals .deadline) t && waitsIn (x .state)
+
+-- a message is of interest in the phase: no other one changes anything (proofs/LentCalls)
+unfoldable pub mindsIn : State → List ℕ → Bool
+mindsIn AwaitStartup m = isMode m
+mindsIn ReadAt m = false
+mindsIn (ReadingF2 n) m = isFormat2 m
+mindsIn (ReadingF1 n) m = starts 0x49 m
+mindsIn Enabling m = starts 0x47 m
+mindsIn Committing m = starts 0x01 m
+mindsIn Activating m = starts 0x4B m
+mindsIn Done m = false
+
+-- a tick, a message is taken and does nothing
+unfoldable pub idleAt : Numbers → ℕ → ℕ → Bool
+idleAt x t room = soundFor x && (leb t 18446744073709541615 && (leb 32 room && not (dueAt x t)))
+
+unfoldable pub ignoredAt : Numbers → ℕ → List ℕ → ℕ → Bool
+ignoredAt x t m room =
+    soundFor x && (leb t 18446744073709541615 && (leb (length m) 255 && (leb 32 room && not (mindsIn (x .state) m))))
+
+-- a message while Format 2 is read is for `part`, any other for `message`: the other one answers 100 and does nothing
+abbrev pub readsF2 : State → Bool
+readsF2 AwaitStartup = false
+readsF2 ReadAt = false
+readsF2 (ReadingF2 n) = true
+readsF2 (ReadingF1 n) = false
+readsF2 Enabling = false
+readsF2 Committing = false
+readsF2 Activating = false
+readsF2 Done = false
+
+abbrev pub notHere : Numbers → Arrays → List ℕ → Told
+notHere x a out = record { number = 100; count = 0; sync = syncOf x a; out = out }
+
+-- begin: the record's lists stay where they stand; every other count is 0
+abbrev pub openedWith : Counts → ℕ → Numbers
+openedWith c n =
+    record {
+      state = AwaitStartup;
+      totals =
+          record {
+            counts =
+                record {
+                  wanted = n;
+                  owed = 0;
+                  fresh = 0;
+                  list = 0;
+                  proprietary = 0;
+                  known = 0;
+                  saved = c .saved;
+                  present = c .present;
+                  refused = c .refused;
+                };
+            deadline = 0;
+            read = false;
+            complete = false;
+            told = false;
+            version = 0;
+            blank = true;
+          };
+    }
+
+-- these PGNs written over the array of the wanted ones
+abbrev pub wanting : Arrays → List ℕ → Arrays
+wanting a want =
+    lent (sets (a .wanted) 0 want) (a .owed) (a .fresh) (a .list) (a .known) (a .saved) (a .present) (a .refused) (a .f2)
+
+-- refused with 11, then 12, and nothing changes; else the session that LentBegin shows to be begin's
+unfoldable pub begunIn : Numbers → List ℕ → Arrays → Begun
+begunIn x want a =
+    pick (ltb 64 (length want)) (record { number = 11; sync = syncOf x a })
+    (pick (recordFits (learnedIn (syncOf x a))) (record { number = 0; sync = syncOf (openedWith (x .totals .counts) (length want)) (wanting a want) })
+    (record { number = 12; sync = syncOf x a }))
