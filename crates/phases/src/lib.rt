@@ -15,6 +15,8 @@ mod write;
 
 use bounds::Counts;
 use lists::F2List;
+pub use parts::in_hand;
+pub use parts::reads_f2;
 use tx_list::State;
 
 // How many each array of a session holds, its due time, and what else is not an array; all of a session but its phase and its arrays.

@@ -32,7 +32,7 @@ pub struct PartStep {
 }
 
 // The parts in hand; none where the numbers say so.
-pub(crate) fn in_hand(t: Totals, f2: F2List) -> F2List
+pub fn in_hand(t: Totals, f2: F2List) -> F2List
     ensures { λ r. ⌜ r ≡ partsOf t f2 ⌝ }
 {
     if t.blank {
@@ -163,7 +163,7 @@ pub(crate) fn told_part(step: PartStep, out: &mut [u8]) -> Parted
 }
 
 // Whether Format 2 is being read.
-pub(crate) fn reads_f2(st: State) -> bool
+pub fn reads_f2(st: State) -> bool
     ensures { λ r. ⌜ r ≡ readsF2 st ⌝ }
 {
     match st {

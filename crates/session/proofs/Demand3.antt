@@ -1,4 +1,4 @@
--- Demand 3 of the session's functions: the struct is a faithful store of a lawful kind, and a list of calls as the contracts give
+-- Demand 3 of the session's functions: what a session holds is a faithful store of a lawful kind, and a list of calls as the contracts give
 -- them is the run that tx_list's claim speaks of. Assumes nothing.
 use Prim.Native.Nat.{ℕ, _≤_}
 use native.Mathlib.Omega.{arith}
@@ -37,12 +37,8 @@ use Rattle.tx_list.proofs.Lists.{allLe-true}
 use Rattle.tx_list.proofs.Kept.{demand3-kept}
 use Rattle.tx_list.proofs.MovesSound.{sound-is, sound-counts, wanted-fits}
 use Rattle.tx_list.proofs.MemoryFaithful.{store-faithful, clear-sized, clear-counted}
-use Rattle.session.specs.declared.TxListSync.{TxListSync}
-use Rattle.session.specs.declared.Called.{Called}
-use Rattle.session.specs.declared.Begun.{Begun}
-use Rattle.session.specs.Sync.{kind, store, clear, ofSync, toSync, put, frameOf, payloadOf, Told, toldCalled, gave, called, begun, setTo, restarted, begunWith}
-use Rattle.session.specs.SyncLaws.{of-to}
-use Rattle.session.specs.ReadingLaws.{put-formed}
+use Rattle.phases.specs.Sync.{Sync, Begun, kind, store, clear, put, frameOf, payloadOf, Told, gave, called, begun, setTo, restarted, begunWith, same}
+use Rattle.phases.specs.ReadingLaws.{put-formed}
 use Rattle.session.specs.Played.{Played, none, message′, tick′, firmware′, Reads, Holds, Demand3, Taken}
 
 -- the kind is lawful
@@ -61,38 +57,38 @@ lawful =
 
 pub faithful : Faithful kind store
 faithful =
-    store-faithful kind TxListSync ofSync toSync clear frameOf of-to (clear-sized kind noParts 0) (clear-counted kind noParts 0 formed-none)
+    store-faithful kind Sync same same clear frameOf (λ (s : Sync). refl) (clear-sized kind noParts 0) (clear-counted kind noParts 0 formed-none)
 
 -- the calls played are the run
 
-told-kept : (a : Answer kind store) (out left : List ℕ) (r : Called) → toldCalled r left ≡ gave a out → r .sync ≡ a .kept
-told-kept a out left r e = ap (λ (t : Told). t .sync) e
+told-kept : (a : Answer kind store) (out : List ℕ) (r : Told) → r ≡ gave a out → r .sync ≡ a .kept
+told-kept a out r e = ap (λ (t : Told). t .sync) e
 
-told-bytes : (a : Answer kind store) (out left : List ℕ) (r : Called) → toldCalled r left ≡ gave a out → take (r .count) left ≡ a .bytes
-told-bytes a out left r e =
+told-bytes : (a : Answer kind store) (out : List ℕ) (r : Told) → r ≡ gave a out → take (r .count) (r .out) ≡ a .bytes
+told-bytes a out r e =
     let n : r .count ≡ length (a .bytes) = ap (λ (t : Told). t .count) e in
-    let o : left ≡ written (a .bytes) out = ap (λ (t : Told). t .out) e in
-    ap (λ (k : ℕ). take k left) n ∙ ap (take (length (a .bytes))) o ∙ take-append-seam (a .bytes) (drop (length (a .bytes)) out)
+    let o : r .out ≡ written (a .bytes) out = ap (λ (t : Told). t .out) e in
+    ap (λ (k : ℕ). take k (r .out)) n ∙ ap (take (length (a .bytes))) o ∙ take-append-seam (a .bytes) (drop (length (a .bytes)) out)
 
-abbrev pub from : TxListSync → List ℕ → Ran′ kind store
+abbrev pub from : Sync → List ℕ → Ran′ kind store
 from s bytes = record { kept = s; bytes = bytes }
 
 -- setting the firmware writes nothing
 silent-by :
-    (y z : Bool) (c : TxListSync) (σ : Session F2List ℕ) (v : ℕ)
+    (y z : Bool) (c : Sync) (σ : Session F2List ℕ) (v : ℕ)
     → answer kind store c (soundly kind y (gate kind (unless z 16 taken) (onFirmware kind σ v))) .bytes ≡ []
 unfolding answer soundly gate unless onFirmware wire
 silent-by true true c σ v = refl
 silent-by true false c σ v = refl
 silent-by false z c σ v = refl
 
-firmware-silent : (c : TxListSync) (v : ℕ) → stored.called kind store c (firmware v) .bytes ≡ []
+firmware-silent : (c : Sync) (v : ℕ) → stored.called kind store c (firmware v) .bytes ≡ []
 unfolding stored.called step
 firmware-silent c v = silent-by (store .counted c) (not (wellFormed kind (store .abs c))) c (store .abs c) v
 
 -- one call, and then the rest
 run-on :
-    (s next last : TxListSync) (x : Call) (calls : List Call) (before wrote bytes : List ℕ)
+    (s next last : Sync) (x : Call) (calls : List Call) (before wrote bytes : List ℕ)
     → next ≡ stored.called kind store s x .kept
     → wrote ≡ stored.called kind store s x .bytes
     → runs kind store (from next (before ++ wrote)) calls ≡ from last ((before ++ wrote) ++ bytes)
@@ -102,21 +98,21 @@ run-on s next last x calls before wrote bytes k w e =
     (λ i. runs kind store (from (sym k i) (before ++ sym w i)) calls) ∙ e ∙ ap (from last) (append-assoc before wrote bytes)
 
 pub played-runs :
-    {s last : TxListSync} {calls : List Call} {bytes : List ℕ} (before : List ℕ)
+    {s last : Sync} {calls : List Call} {bytes : List ℕ} (before : List ℕ)
     → Played s calls last bytes
     → runs kind store (from s before) calls ≡ from last (before ++ bytes)
 unfolding runs
 played-runs {s} before none = ap (from s) (sym (append-nil before))
-played-runs {s} {last} before (message′ {calls = calls} {bytes = bytes} r time payload out left e p) =
+played-runs {s} {last} before (message′ {calls = calls} {bytes = bytes} r time payload out e p) =
     let x : Call = message time payload (length out) in
     let a : Answer kind store = stored.called kind store s x in
-    run-on s (r .sync) last x calls before (take (r .count) left) bytes (told-kept a out left r e) (told-bytes a out left r e)
-    (played-runs (before ++ take (r .count) left) p)
-played-runs {s} {last} before (tick′ {calls = calls} {bytes = bytes} r time out left e p) =
+    run-on s (r .sync) last x calls before (take (r .count) (r .out)) bytes (told-kept a out r e) (told-bytes a out r e)
+    (played-runs (before ++ take (r .count) (r .out)) p)
+played-runs {s} {last} before (tick′ {calls = calls} {bytes = bytes} r time out e p) =
     let x : Call = tick time (length out) in
     let a : Answer kind store = stored.called kind store s x in
-    run-on s (r .sync) last x calls before (take (r .count) left) bytes (told-kept a out left r e) (told-bytes a out left r e)
-    (played-runs (before ++ take (r .count) left) p)
+    run-on s (r .sync) last x calls before (take (r .count) (r .out)) bytes (told-kept a out r e) (told-bytes a out r e)
+    (played-runs (before ++ take (r .count) (r .out)) p)
 played-runs {s} {last} before (firmware′ {calls = calls} {bytes = bytes} r version e p) =
     run-on s (r .sync) last (firmware version) calls before [] bytes (ap (λ (b : Begun). b .sync) e) (sym (firmware-silent s version))
     (played-runs (before ++ []) p)
@@ -153,7 +149,7 @@ reads-wire (c ∷ cs) d r =
 
 -- the claim
 shown-kept :
-    (w : List ℕ) (old : Record ℕ) (calls : List Call) (last : TxListSync) (bytes : List ℕ)
+    (w : List ℕ) (old : Record ℕ) (calls : List Call) (last : Sync) (bytes : List ℕ)
     → Shown kind store w old calls (from last bytes)
     → Holds w old calls last bytes
 shown-kept w old calls last bytes h =
@@ -166,7 +162,7 @@ shown-kept w old calls last bytes h =
     }
 
 shown-from :
-    (w : List ℕ) (old : Record ℕ) (s : TxListSync) (calls : List Call) (last : TxListSync) (bytes : List ℕ)
+    (w : List ℕ) (old : Record ℕ) (s : Sync) (calls : List Call) (last : Sync) (bytes : List ℕ)
     → Played s calls last bytes
     → Shown kind store w old calls (runs kind store (from s []) calls)
     → Holds w old calls last bytes
@@ -196,7 +192,7 @@ begin-by false false w old e f = let z : _≡_ {A = ℕ} 0 1 = cc in absurd (ome
 begin-by false true w old e f = refl
 
 again-by :
-    (a b x y : Bool) (c : TxListSync) (w : List ℕ) (old : Record ℕ)
+    (a b x y : Bool) (c : Sync) (w : List ℕ) (old : Record ℕ)
     → (a && b) ≡ true
     → x ≡ false
     → y ≡ true
@@ -216,6 +212,6 @@ taken-openings =
       again = λ s z e l.
           again-by (store .counted s) (wellFormed kind (store .abs s)) (ltb 64 (length (store .abs s .wanted))) (allLe (oldBounds kind (store .abs s .rec))) s
           (store .abs s .wanted) (store .abs s .rec) e
-          (wanted-fits kind (ofSync s) z (sound-counts kind (ofSync s) (sym (sound-is kind (ofSync s) z) ∙ e)))
+          (wanted-fits kind s z (sound-counts kind s (sym (sound-is kind s z) ∙ e)))
           (allLe-true (oldBounds kind (store .abs s .rec)) l);
     }

@@ -14,26 +14,24 @@ use Rattle.tx_list.specs.Reading.{Call, taken}
 use Rattle.tx_list.specs.Memory.{Sized}
 use Rattle.tx_list.specs.Moves.{soundIn}
 use Rattle.tx_list.specs.Live.{Helpful, Mixed, startUp}
-use Rattle.session.specs.declared.TxListSync.{TxListSync}
-use Rattle.session.specs.declared.Numbers.{Numbers}
-use Rattle.session.specs.declared.Begun.{Begun}
-use Rattle.session.specs.Sync.{kind, ofSync, recordOf, recordFits, restarted}
-use Rattle.session.specs.Lent.{Arrays, Fits, syncOf, openedWith, wanting, soundFor, begunIn}
-use Rattle.session.specs.LentLaws.{sized, sound-flat}
+use Rattle.phases.specs.Sync.{Sync, Begun, kind, recordOf, recordFits, restarted, learnedIn}
+use Rattle.phases.specs.declared.Numbers.{Numbers}
+use Rattle.phases.specs.Lent.{Arrays, Fits, syncOf, openedWith, wanting, soundFor, begunIn}
+use Rattle.phases.specs.LentLaws.{sized, sound-flat}
 use Rattle.session.specs.LentPlayed.{InLentMemory}
-use Rattle.session.specs.ReadingLaws.{front-read}
+use Rattle.phases.specs.ReadingLaws.{front-read}
 use Rattle.session.specs.Played.{Played, Holds, heldBy}
 use Rattle.session.specs.StartUp.{StartedUp}
-use Rattle.session.proofs.CallLaws.{restart-by, judged, record-within, record-counts}
+use Rattle.phases.proofs.CallLaws.{restart-by, judged, record-within, record-counts}
 use Rattle.session.proofs.Demand3.{demand3}
 use Rattle.session.proofs.StartUp as lives
 
 -- the session that begin leaves
 module _ (x : Numbers) (want : List ℕ) (a : Arrays) where
-  abbrev opened : TxListSync
+  abbrev opened : Sync
   opened = syncOf (openedWith (x .totals .counts) (length want)) (wanting a want)
 
-  opened-sized : Fits a → Sized kind (ofSync opened)
+  opened-sized : Fits a → Sized kind opened
   opened-sized z =
       sized (openedWith (x .totals .counts) (length want)) (wanting a want)
       (record {
@@ -47,10 +45,10 @@ module _ (x : Numbers) (want : List ℕ) (a : Arrays) where
         refused-256 = z .refused-256;
       })
 
-  opened-sound : length want ≤ 64 → recordFits (syncOf x a .held .learned) ≡ true → soundIn kind (ofSync opened) ≡ true
+  opened-sound : length want ≤ 64 → recordFits (learnedIn (syncOf x a)) ≡ true → soundIn kind opened ≡ true
   unfolding soundFor
   opened-sound h r =
-      let c = record-counts (syncOf x a .held .learned) r in
+      let c = record-counts (learnedIn (syncOf x a)) r in
       let n = x .totals .counts in
       sym (sound-flat (openedWith (x .totals .counts) (length want)) (wanting a want))
       ∙ rw (
@@ -64,9 +62,9 @@ module _ (x : Numbers) (want : List ℕ) (a : Arrays) where
       )
 
   -- a restart leaves it as it is
-  begun-again : Fits a → length want ≤ 64 → recordFits (syncOf x a .held .learned) ≡ true → restarted opened ≡ record { number = 0; sync = opened }
+  begun-again : Fits a → length want ≤ 64 → recordFits (learnedIn (syncOf x a)) ≡ true → restarted opened ≡ record { number = 0; sync = opened }
   begun-again z h r =
-      sym (restart-by opened taken (opened-sized z) (judged _ _ (opened-sound h r) ∙ record-within (opened .held .learned) r))
+      sym (restart-by opened taken (opened-sized z) (judged _ _ (opened-sound h r) ∙ record-within (learnedIn opened) r))
 
   -- its wanted list
   wanted-is : Fits a → length want ≤ 64 → take (length want) (sets (a .wanted) 0 want) ≡ want
@@ -74,7 +72,7 @@ module _ (x : Numbers) (want : List ℕ) (a : Arrays) where
 
 -- begin, where it does not refuse
 taken-by :
-    (y v : Bool) (s t : TxListSync) (r : Begun)
+    (y v : Bool) (s t : Sync) (r : Begun)
     → r ≡ pick y (record { number = 11; sync = s }) (pick v (record { number = 0; sync = t }) (record { number = 12; sync = s }))
     → r .number ≡ 0
     → (y ≡ false) × (v ≡ true) × (r .sync ≡ t)
@@ -86,9 +84,9 @@ begin-taken :
     (x : Numbers) (want : List ℕ) (a : Arrays) (r : Begun)
     → r ≡ begunIn x want a
     → r .number ≡ 0
-    → (ltb 64 (length want) ≡ false) × (recordFits (syncOf x a .held .learned) ≡ true) × (r .sync ≡ opened x want a)
+    → (ltb 64 (length want) ≡ false) × (recordFits (learnedIn (syncOf x a)) ≡ true) × (r .sync ≡ opened x want a)
 unfolding begunIn
-begin-taken x want a r e n = taken-by (ltb 64 (length want)) (recordFits (syncOf x a .held .learned)) (syncOf x a) (opened x want a) r e n
+begin-taken x want a r e n = taken-by (ltb 64 (length want)) (recordFits (learnedIn (syncOf x a))) (syncOf x a) (opened x want a) r e n
 
 pub in-lent-memory : InLentMemory
 in-lent-memory =
@@ -96,14 +94,14 @@ in-lent-memory =
       demand-3 = λ x w a r z e n calls last bytes p.
           let q = begin-taken x w a r e n in
           let h = ltb-false 64 (length w) (q .0) in
-          subst (λ (v : List ℕ). Holds v (recordOf (syncOf x a .held .learned)) calls last bytes) (wanted-is x w a z h)
+          subst (λ (v : List ℕ). Holds v (recordOf (learnedIn (syncOf x a))) calls last bytes) (wanted-is x w a z h)
           (demand3 .again (opened x w a) (record { number = 0; sync = opened x w a }) (opened-sized x w a z) (sym (begun-again x w a z h (q .1))) refl calls last
           bytes
-          (subst (λ (s : TxListSync). Played s calls last bytes) (q .2) p));
+          (subst (λ (s : Sync). Played s calls last bytes) (q .2) p));
       start-up = λ x w a r z e n g f calls m last bytes p.
           let q = begin-taken x w a r e n in
           let h = ltb-false 64 (length w) (q .0) in
-          let old = recordOf (syncOf x a .held .learned) in
+          let old = recordOf (learnedIn (syncOf x a)) in
           subst
           (λ (v : List ℕ).
           Helpful kind v old g → Mixed kind (record { session = heldBy (opened x w a); sent = [] }) (startUp kind v old g) calls → StartedUp v old g last bytes)
@@ -111,7 +109,7 @@ in-lent-memory =
           (λ f′ m′.
           lives.start-up .again (opened x w a) (record { number = 0; sync = opened x w a }) (opened-sized x w a z) (sym (begun-again x w a z h (q .1))) refl g f′
           calls m′ last bytes
-          (subst (λ (s : TxListSync). Played s calls last bytes) (q .2) p))
+          (subst (λ (s : Sync). Played s calls last bytes) (q .2) p))
           f
-          (subst (λ (s : TxListSync). Mixed kind (record { session = heldBy s; sent = [] }) (startUp kind w old g) calls) (q .2) m);
+          (subst (λ (s : Sync). Mixed kind (record { session = heldBy s; sent = [] }) (startUp kind w old g) calls) (q .2) m);
     }

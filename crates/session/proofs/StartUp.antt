@@ -15,17 +15,15 @@ use Rattle.tx_list.specs.Memory.{absFlat}
 use Rattle.tx_list.specs.Live.{Gateway, Helpful, Mixed, startUp, Started}
 use Rattle.tx_list.specs.LiveKept.{Up, Live-kept}
 use Rattle.tx_list.proofs.LiveKept.{live-kept}
-use Rattle.session.specs.declared.TxListSync.{TxListSync}
-use Rattle.session.specs.declared.Begun.{Begun}
-use Rattle.session.specs.declared.IsDone.{IsDone}
-use Rattle.session.specs.Sync.{kind, store, ofSync, begun, restarted, begunWith, sound, doneOf, Said, says, refused, lackOf}
+use Rattle.phases.specs.Sync.{Sync, Begun, kind, store, begun, restarted, begunWith, sound, doneOf, Said, says, refused, lackOf, same}
+use Rattle.phases.specs.declared.IsDone.{IsDone}
 use Rattle.session.specs.Played.{Played, Reads, Holds, heldBy}
 use Rattle.session.specs.StartUp.{StartedUp, StartUp}
 use Rattle.session.proofs.Demand3.{lawful, faithful, demand3, from, played-runs, reads-wire}
 
 -- a session that no call refuses with 16 is well formed
 refused-by :
-    (y z : Bool) (s : TxListSync) (σ : Session F2List ℕ)
+    (y z : Bool) (s : Sync) (σ : Session F2List ℕ)
     → (answer kind store s (soundly kind y (gate kind (unless (not z) 16 taken) (onFirmware kind σ 0))) .no ≡ 16 → ⊥)
     → (y && z) ≡ true
 unfolding answer soundly gate unless onFirmware
@@ -33,7 +31,7 @@ refused-by true true s σ h = refl
 refused-by true false s σ h = absurd (h refl)
 refused-by false z s σ h = absurd (h refl)
 
-unrefused-sound : (s : TxListSync) → ((x : Call) → stored.called kind store s x .no ≡ 16 → ⊥) → sound s ≡ true
+unrefused-sound : (s : Sync) → ((x : Call) → stored.called kind store s x .no ≡ 16 → ⊥) → sound s ≡ true
 unfolding stored.called step
 unrefused-sound s h = refused-by (store .counted s) (wellFormed kind (store .abs s)) s (store .abs s) (h (firmware 0))
 
@@ -41,16 +39,16 @@ map-same : (l : List ℕ) → map (λ (p : ℕ). p) l ≡ l
 map-same [] = refl
 map-same (x ∷ l) = ap (λ (t : List ℕ). x ∷ t) (map-same l)
 
-done-is : (last : TxListSync) → sound last ≡ true → isDone (absFlat (ofSync last) .phase) ≡ true → doneOf last ≡ record { number = 0; done = true }
+done-is : (last : Sync) → sound last ≡ true → isDone (absFlat last .phase) ≡ true → doneOf last ≡ record { number = 0; done = true }
 done-is last e d =
-    ap (λ (y : Bool). pick {A = IsDone} y (record { number = 0; done = isDone (absFlat (ofSync last) .phase) }) (record { number = 16; done = false })) e
+    ap (λ (y : Bool). pick {A = IsDone} y (record { number = 0; done = isDone (absFlat last .phase) }) (record { number = 16; done = false })) e
     ∙ ap {B = IsDone} (λ (y : Bool). record { number = 0; done = y }) d
 
-lack-is : (last : TxListSync) (p : ℕ) → sound last ≡ true → lacks (absFlat (ofSync last) .known) p ≡ silent → lackOf last p ≡ says silent
-lack-is last p e l = ap (λ (y : Bool). pick y (says (lacks (absFlat (ofSync last) .known) p)) (refused 16)) e ∙ ap says l
+lack-is : (last : Sync) (p : ℕ) → sound last ≡ true → lacks (absFlat last .known) p ≡ silent → lackOf last p ≡ says silent
+lack-is last p e l = ap (λ (y : Bool). pick y (says (lacks (absFlat last .known) p)) (refused 16)) e ∙ ap says l
 
 up :
-    (w : List ℕ) (old : Record ℕ) (g : Gateway) (s last : TxListSync) (calls : List Call) (bytes : List ℕ)
+    (w : List ℕ) (old : Record ℕ) (g : Gateway) (s last : Sync) (calls : List Call) (bytes : List ℕ)
     → Played s calls last bytes
     → Holds w old calls last bytes
     → Up kind store w old g (runs kind store (from s []) calls)

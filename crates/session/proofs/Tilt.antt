@@ -18,9 +18,7 @@ use Rattle.tx_list.specs.Reading.{Kind, Call, isNew}
 use Rattle.tx_list.specs.Session.{Record, Ran, owed, settle, step, begin, beginBy}
 use Rattle.tx_list.specs.Stored.{answer, opens}
 use Rattle.tx_list.specs.Live.{Said, isPage, Gateway, startUp, Helpful, Mixed, end, next}
-use Rattle.session.specs.declared.TxListSync.{TxListSync}
-use Rattle.session.specs.declared.Begun.{Begun}
-use Rattle.session.specs.Sync.{kind, put, begunWith}
+use Rattle.phases.specs.Sync.{Sync, Begun, kind, put, begunWith}
 use Rattle.session.specs.Played.{Played, heldBy}
 use Rattle.session.specs.StartUp.{StartedUp}
 use Rattle.session.proofs.StartUp.{start-up}
@@ -134,7 +132,7 @@ begins-at-once = refl
 pub tilts :
     (g : Gateway)
     → Helpful kind wanted nothing g
-    → (last : TxListSync) (bytes : List ℕ)
+    → (last : Sync) (bytes : List ℕ)
     → Played (begunWith wanted nothing .sync) (startUp kind wanted nothing g) last bytes
     → StartedUp wanted nothing g last bytes
 tilts g h last bytes p =
@@ -142,13 +140,13 @@ tilts g h last bytes p =
     (straight kind (record { session = heldBy (begunWith wanted nothing .sync); sent = [] }) (startUp kind wanted nothing g)) last bytes p
 
 pub newer-tilts :
-    (last : TxListSync) (bytes : List ℕ)
+    (last : Sync) (bytes : List ℕ)
     → Played (begunWith wanted nothing .sync) (startUp kind wanted nothing newer) last bytes
     → StartedUp wanted nothing newer last bytes
 newer-tilts = tilts newer newer-helps
 
 pub older-tilts :
-    (last : TxListSync) (bytes : List ℕ)
+    (last : Sync) (bytes : List ℕ)
     → Played (begunWith wanted nothing .sync) (startUp kind wanted nothing older) last bytes
     → StartedUp wanted nothing older last bytes
 older-tilts = tilts older older-helps

@@ -1,15 +1,13 @@
--- Demand 3 and the start-up from a begin in lent memory. From a restart they are those of the struct: every function of `Numbers` answers as
--- the function of that name does of the session that is held (`syncOf`), and `Played` takes any such answers. Assumes nothing.
+-- Demand 3 and the start-up from a begin in lent memory, where the arrays keep what stands past their counts. From a restart they are
+-- those of specs/Played and specs/StartUp, which speak of any session held. Assumes nothing.
 use Prim.Native.Nat.{ℕ}
 use mathlib.Core.Path.{_≡_}
 use mathlib.Core.List.{List, []}
 use Rattle.tx_list.specs.Reading.{Call}
 use Rattle.tx_list.specs.Live.{Gateway, Helpful, Mixed, startUp}
-use Rattle.session.specs.declared.TxListSync.{TxListSync}
-use Rattle.session.specs.declared.Numbers.{Numbers}
-use Rattle.session.specs.declared.Begun.{Begun}
-use Rattle.session.specs.Sync.{kind, recordOf}
-use Rattle.session.specs.Lent.{Arrays, Fits, syncOf, begunIn}
+use Rattle.phases.specs.Sync.{Sync, Begun, kind, recordOf, learnedIn}
+use Rattle.phases.specs.declared.Numbers.{Numbers}
+use Rattle.phases.specs.Lent.{Arrays, Fits, syncOf, begunIn}
 use Rattle.session.specs.Played.{Played, Holds, heldBy}
 use Rattle.session.specs.StartUp.{StartedUp}
 
@@ -20,18 +18,18 @@ pub record InLentMemory : Type 0 where
       → Fits a
       → r ≡ begunIn x w a
       → r .number ≡ 0
-      → (calls : List Call) (last : TxListSync) (bytes : List ℕ)
+      → (calls : List Call) (last : Sync) (bytes : List ℕ)
       → Played (r .sync) calls last bytes
-      → Holds w (recordOf (syncOf x a .held .learned)) calls last bytes
+      → Holds w (recordOf (learnedIn (syncOf x a))) calls last bytes
   pub start-up :
       (x : Numbers) (w : List ℕ) (a : Arrays) (r : Begun)
       → Fits a
       → r ≡ begunIn x w a
       → r .number ≡ 0
       → (g : Gateway)
-      → Helpful kind w (recordOf (syncOf x a .held .learned)) g
+      → Helpful kind w (recordOf (learnedIn (syncOf x a))) g
       → (calls : List Call)
-      → Mixed kind (record { session = heldBy (r .sync); sent = [] }) (startUp kind w (recordOf (syncOf x a .held .learned)) g) calls
-      → (last : TxListSync) (bytes : List ℕ)
+      → Mixed kind (record { session = heldBy (r .sync); sent = [] }) (startUp kind w (recordOf (learnedIn (syncOf x a))) g) calls
+      → (last : Sync) (bytes : List ℕ)
       → Played (r .sync) calls last bytes
-      → StartedUp w (recordOf (syncOf x a .held .learned)) g last bytes
+      → StartedUp w (recordOf (learnedIn (syncOf x a))) g last bytes

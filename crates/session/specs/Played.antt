@@ -1,6 +1,7 @@
 -- Demand 3 on the functions' own contracts and on bytes: what is played is any list of calls, each answer as the function's contract
--- gives it, each call getting the session that the last one returned. The claim itself is tx_list's (specs/Demand there).
--- Assumes nothing.
+-- gives it, each call getting the session that the last one left. A session is what a `TxListSync` holds (`ofSync`, specs/Whole), or what
+-- numbers and lent arrays hold (`syncOf`, phases/specs/Lent): both forms have the same contracts. The claim itself is tx_list's
+-- (specs/Demand there). Assumes nothing.
 use Prim.Native.Nat.{ℕ, _≤_}
 use mathlib.Core.Path.{_≡_}
 use mathlib.Core.Bool.{true}
@@ -16,26 +17,23 @@ use Rattle.tx_list.specs.Session.{Record, Session, AllLe, oldBounds}
 use Rattle.tx_list.specs.Demand.{Claim, happened}
 use Rattle.tx_list.specs.Stored.{wire}
 use Rattle.tx_list.specs.Memory.{live, Sized, absFlat}
-use Rattle.session.specs.declared.TxListSync.{TxListSync}
-use Rattle.session.specs.declared.Called.{Called}
-use Rattle.session.specs.declared.Begun.{Begun}
-use Rattle.session.specs.Sync.{kind, store, ofSync, of64, recordOf, toldCalled, called, setTo, sound, restarted, begunWith, payloadOf}
+use Rattle.phases.specs.Sync.{Sync, Begun, kind, store, recordOf, called, setTo, sound, restarted, begunWith, payloadOf, learnedIn, Told}
 
 -- calls one after the other, with the bytes that they wrote: of each answer the first `count` bytes of its output
-pub data Played : TxListSync → List Call → TxListSync → List ℕ → Type 0 where
-  none : {s : TxListSync} → Played s [] s []
+pub data Played : Sync → List Call → Sync → List ℕ → Type 0 where
+  none : {s : Sync} → Played s [] s []
   message′ :
-      {s last : TxListSync} {calls : List Call} {bytes : List ℕ} (r : Called) (time : ℕ) (payload out left : List ℕ)
-      → toldCalled r left ≡ called s (message time payload (length out)) out
+      {s last : Sync} {calls : List Call} {bytes : List ℕ} (r : Told) (time : ℕ) (payload out : List ℕ)
+      → r ≡ called s (message time payload (length out)) out
       → Played (r .sync) calls last bytes
-      → Played s (message time payload (length out) ∷ calls) last (take (r .count) left ++ bytes)
+      → Played s (message time payload (length out) ∷ calls) last (take (r .count) (r .out) ++ bytes)
   tick′ :
-      {s last : TxListSync} {calls : List Call} {bytes : List ℕ} (r : Called) (time : ℕ) (out left : List ℕ)
-      → toldCalled r left ≡ called s (tick time (length out)) out
+      {s last : Sync} {calls : List Call} {bytes : List ℕ} (r : Told) (time : ℕ) (out : List ℕ)
+      → r ≡ called s (tick time (length out)) out
       → Played (r .sync) calls last bytes
-      → Played s (tick time (length out) ∷ calls) last (take (r .count) left ++ bytes)
+      → Played s (tick time (length out) ∷ calls) last (take (r .count) (r .out) ++ bytes)
   firmware′ :
-      {s last : TxListSync} {calls : List Call} {bytes : List ℕ} (r : Begun) (version : ℕ)
+      {s last : Sync} {calls : List Call} {bytes : List ℕ} (r : Begun) (version : ℕ)
       → r ≡ setTo s version
       → Played (r .sync) calls last bytes
       → Played s (firmware version ∷ calls) last bytes
@@ -48,13 +46,13 @@ Reads d bytes (c ∷ cs) =
     × (decoder.payloadOf (fed d bytes .outcome) (fed d bytes .next .buffer) ≡ payloadOf c)
     × Reads (fed d bytes .next) (drop (fed d bytes .used) bytes) cs
 
--- the session that the struct holds
-abbrev pub heldBy : TxListSync → Session F2List ℕ
-heldBy s = absFlat (ofSync s)
+-- the session that is held
+abbrev pub heldBy : Sync → Session F2List ℕ
+heldBy s = absFlat s
 
 -- THE CLAIM for a session that wants w, with the old record: the bytes written are the frames of the commands sent, and what the decoder reads
 -- from them are these commands; they and the record are as demand 3 says; and no call that follows is refused with 16
-pub record Holds (w : List ℕ) (old : Record ℕ) (calls : List Call) (last : TxListSync) (bytes : List ℕ) : Type 0 where
+pub record Holds (w : List ℕ) (old : Record ℕ) (calls : List Call) (last : Sync) (bytes : List ℕ) : Type 0 where
   pub sent : List Command
   pub written : bytes ≡ wire kind store sent
   pub read : (d : decoder.State) → Ready base d → Reads d bytes sent
@@ -62,23 +60,23 @@ pub record Holds (w : List ℕ) (old : Record ℕ) (calls : List Call) (last : T
   pub unrefused : (x : Call) (out : List ℕ) → called last x out .number ≡ 16 → ⊥
 
 -- DEMAND 3, from a begin and from a restart that are not refused. `Sized` says that each array has its length, which holds of every value
--- of the struct.
+-- of the struct and of every array that is lent.
 pub record Demand3 : Type 0 where
   pub begun :
       (w : List ℕ) (old : Record ℕ) (r : Begun)
       → r ≡ begunWith w old
       → r .number ≡ 0
-      → (calls : List Call) (last : TxListSync) (bytes : List ℕ)
+      → (calls : List Call) (last : Sync) (bytes : List ℕ)
       → Played (r .sync) calls last bytes
       → Holds w old calls last bytes
   pub again :
-      (s : TxListSync) (r : Begun)
-      → Sized kind (ofSync s)
+      (s : Sync) (r : Begun)
+      → Sized kind s
       → r ≡ restarted s
       → r .number ≡ 0
-      → (calls : List Call) (last : TxListSync) (bytes : List ℕ)
+      → (calls : List Call) (last : Sync) (bytes : List ℕ)
       → Played (r .sync) calls last bytes
-      → Holds (live (of64 (s .held .wanted))) (recordOf (s .held .learned)) calls last bytes
+      → Holds (live (s .wanted)) (recordOf (learnedIn s)) calls last bytes
 
 -- Which openings are taken: at most 64 wanted with record lists of at most 192; a session that is well formed with such a record.
 pub record Taken : Type 0 where
@@ -88,4 +86,4 @@ pub record Taken : Type 0 where
       → AllLe (oldBounds kind old)
       → begunWith w old .number ≡ 0
   pub again :
-      (s : TxListSync) → Sized kind (ofSync s) → sound s ≡ true → AllLe (oldBounds kind (recordOf (s .held .learned))) → restarted s .number ≡ 0
+      (s : Sync) → Sized kind s → sound s ≡ true → AllLe (oldBounds kind (recordOf (learnedIn s))) → restarted s .number ≡ 0

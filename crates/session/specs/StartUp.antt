@@ -13,14 +13,12 @@ use Rattle.tx_list.specs.Reading.{Command, Call}
 use Rattle.tx_list.specs.Session.{Record, silent}
 use Rattle.tx_list.specs.Live.{Gateway, Helpful, Mixed, startUp, Started}
 use Rattle.tx_list.specs.Memory.{live, Sized}
-use Rattle.session.specs.declared.TxListSync.{TxListSync}
-use Rattle.session.specs.declared.Begun.{Begun}
-use Rattle.session.specs.Sync.{kind, ofSync, of64, recordOf, restarted, begunWith, doneOf, says, lackOf}
+use Rattle.phases.specs.Sync.{Sync, Begun, kind, recordOf, restarted, begunWith, doneOf, says, lackOf, learnedIn}
 use Rattle.session.specs.Played.{Played, Reads, heldBy}
 
 -- the session is done, `is_done` says so, `lacks` says nothing of a wanted PGN that was not refused before, and the commands that the
 -- decoder reads from the bytes written, the known list and the record are as the gateway's answers make them
-pub record StartedUp (w : List ℕ) (old : Record ℕ) (g : Gateway) (last : TxListSync) (bytes : List ℕ) : Type 0 where
+pub record StartedUp (w : List ℕ) (old : Record ℕ) (g : Gateway) (last : Sync) (bytes : List ℕ) : Type 0 where
   pub sent : List Command
   pub read : (d : decoder.State) → Ready base d → Reads d bytes sent
   pub started : Started kind w old g (record { session = heldBy last; sent = sent })
@@ -36,19 +34,19 @@ pub record StartUp : Type 0 where
       → Helpful kind w old g
       → (calls : List Call)
       → Mixed kind (record { session = heldBy (r .sync); sent = [] }) (startUp kind w old g) calls
-      → (last : TxListSync) (bytes : List ℕ)
+      → (last : Sync) (bytes : List ℕ)
       → Played (r .sync) calls last bytes
       → StartedUp w old g last bytes
   pub again :
-      (s : TxListSync) (r : Begun)
-      → Sized kind (ofSync s)
+      (s : Sync) (r : Begun)
+      → Sized kind s
       → r ≡ restarted s
       → r .number ≡ 0
       → (g : Gateway)
-      → Helpful kind (live (of64 (s .held .wanted))) (recordOf (s .held .learned)) g
+      → Helpful kind (live (s .wanted)) (recordOf (learnedIn s)) g
       → (calls : List Call)
       → Mixed kind (record { session = heldBy (r .sync); sent = [] })
-      (startUp kind (live (of64 (s .held .wanted))) (recordOf (s .held .learned)) g) calls
-      → (last : TxListSync) (bytes : List ℕ)
+      (startUp kind (live (s .wanted)) (recordOf (learnedIn s)) g) calls
+      → (last : Sync) (bytes : List ℕ)
       → Played (r .sync) calls last bytes
-      → StartedUp (live (of64 (s .held .wanted))) (recordOf (s .held .learned)) g last bytes
+      → StartedUp (live (s .wanted)) (recordOf (learnedIn s)) g last bytes

@@ -1,5 +1,4 @@
 // A session's struct, and its numbers and arrays: taken apart, and put together again.
-use super::Answered;
 use super::Begun;
 use super::Called;
 use super::Firmware;
@@ -9,23 +8,28 @@ use super::List64;
 use super::List256;
 use super::List1024;
 use super::List1344;
-use super::Numbers;
-use super::Renewed;
-use super::Totals;
 use super::TxListRecord;
 use super::TxListSync;
 use bounds::Counts;
 use lists::F2List;
+use phases::Answered;
+use phases::Numbers;
+use phases::Renewed;
+use phases::Totals;
+use tx_list::State;
 ghost use mathlib.Core.Path.{_≡_};
 ghost use mathlib.Core.Bool.{true, false};
+ghost use mathlib.Core.List.{List};
+ghost use Prim.Native.Nat.{ℕ};
 ghost use lib.ListN.{length};
 ghost use Rattle.tx_list.specs.Reading as model;
-ghost use Rattle.session.specs.Sound.{countsOf};
-ghost use Rattle.session.specs.Sync.{toldCalled, called};
-ghost use Rattle.session.specs.Lent.{Fits, lent, syncOf, numbersOf, arraysOf, readsF2};
+ghost use Rattle.phases.specs.Sound.{countsOf};
+ghost use Rattle.phases.specs.Sync.{called};
+ghost use Rattle.phases.specs.Lent.{Fits, lent, syncOf, numbersOf, arraysOf, readsF2};
+ghost use Rattle.session.specs.Whole.{ofHeld, ofSync, learnedOf, toldCalled, toldBegun};
 
 fn counts_of(h: Held) -> Counts
-    ensures { λ r. ⌜ r ≡ countsOf h ⌝ }
+    ensures { λ r. ⌜ ((st : State) → r ≡ countsOf (ofHeld st h)) ⌝ }
 {
     Counts {
         wanted: h.wanted.n,
@@ -42,8 +46,8 @@ fn counts_of(h: Held) -> Counts
 
 // A session's numbers. Its arrays have their lengths, as those of every session.
 pub(crate) fn numbers_of(s: TxListSync) -> Numbers
-    ensures { λ r. ⌜ r ≡ numbersOf s ⌝ }
-    ensures { λ r. ⌜ Fits (arraysOf s) ⌝ }
+    ensures { λ r. ⌜ r ≡ numbersOf (ofSync s) ⌝ }
+    ensures { λ r. ⌜ Fits (arraysOf (ofSync s)) ⌝ }
 {
     let counts = counts_of(s.held);
     let totals = Totals {
@@ -110,11 +114,11 @@ fn built(
     refused: [u32; 256],
     f2: F2List,
 ) -> TxListSync
-    ensures { λ r. ⌜ r ≡ syncOf x (lent wanted owed fresh list known saved present refused f2) ⌝ }
+    ensures { λ r. ⌜ ofSync r ≡ syncOf x (lent wanted owed fresh list known saved present refused f2) ⌝ }
 {
     let t = x.totals;
     let c = t.counts;
-    let parts = super::parts::in_hand(t, f2);
+    let parts = phases::in_hand(t, f2);
     let heard = known_of(t, known);
     let learned = learned_of(c, saved, present, refused);
     let held = Held {
@@ -149,7 +153,7 @@ fn built(
 
 // The session with other numbers.
 fn with_numbers(s: TxListSync, x: Numbers) -> TxListSync
-    ensures { λ r. ⌜ r ≡ syncOf x (arraysOf s) ⌝ }
+    ensures { λ r. ⌜ ofSync r ≡ syncOf x (arraysOf (ofSync s)) ⌝ }
 {
     let h = s.held;
     let wanted = h.wanted.pgns;
@@ -176,7 +180,7 @@ fn with_numbers(s: TxListSync, x: Numbers) -> TxListSync
 }
 
 pub(crate) fn renewed(s: TxListSync, r: Renewed) -> Begun
-    ensures { λ b. ⌜ b ≡ record { number = r .number; sync = syncOf (r .numbers) (arraysOf s) } ⌝ }
+    ensures { λ b. ⌜ toldBegun b ≡ record { number = r .number; sync = syncOf (r .numbers) (arraysOf (ofSync s)) } ⌝ }
 {
     let x = r.numbers;
     let sync = with_numbers(s, x);
@@ -187,7 +191,7 @@ pub(crate) fn renewed(s: TxListSync, r: Renewed) -> Begun
 }
 
 pub(crate) fn answered(s: TxListSync, a: Answered) -> Called
-    ensures { λ r. ⌜ r ≡ record { number = a .number; count = a .count; sync = syncOf (a .numbers) (arraysOf s) } ⌝ }
+    ensures { λ r. ⌜ ((out : List ℕ) → toldCalled r out ≡ record { number = a .number; count = a .count; sync = syncOf (a .numbers) (arraysOf (ofSync s)); out = out }) ⌝ }
 {
     let x = a.numbers;
     let sync = with_numbers(s, x);
@@ -201,7 +205,7 @@ pub(crate) fn answered(s: TxListSync, a: Answered) -> Called
 // A message while anything but Format 2 is read: the arrays are copied, lent, and put together again.
 pub(crate) fn message_in(s: TxListSync, time: u64, payload: &[u8], out: &mut [u8]) -> Called
     requires { ⌜ readsF2 (s .state) ≡ false ⌝ }
-    ensures { λ r. ⌜ toldCalled r (now (out .exit)) ≡ called s (model.message time (now (payload .entry)) (length (now (out .entry)))) (now (out .entry)) ⌝ }
+    ensures { λ r. ⌜ toldCalled r (now (out .exit)) ≡ called (ofSync s) (model.message time (now (payload .entry)) (length (now (out .entry)))) (now (out .entry)) ⌝ }
 {
     let h = s.held;
     let mut wanted = h.wanted.pgns;
@@ -250,7 +254,7 @@ pub(crate) fn message_in(s: TxListSync, time: u64, payload: &[u8], out: &mut [u8
 // A message while Format 2 is read.
 pub(crate) fn part_in(s: TxListSync, time: u64, payload: &[u8], out: &mut [u8]) -> Called
     requires { ⌜ readsF2 (s .state) ≡ true ⌝ }
-    ensures { λ r. ⌜ toldCalled r (now (out .exit)) ≡ called s (model.message time (now (payload .entry)) (length (now (out .entry)))) (now (out .entry)) ⌝ }
+    ensures { λ r. ⌜ toldCalled r (now (out .exit)) ≡ called (ofSync s) (model.message time (now (payload .entry)) (length (now (out .entry)))) (now (out .entry)) ⌝ }
 {
     let h = s.held;
     let mut wanted = h.wanted.pgns;

@@ -1,9 +1,10 @@
 -- `session::TxListSync::lacks` meets its contract. Assumes nothing.
 use mathlib.Core.Path.{ap, _∙_}
 use borrow.Author.Needs.{needs}
-use Rattle.session.specs.declared.Numbers.{Numbers}
-use Rattle.session.specs.Sync.{lackOf}
-use Rattle.session.specs.Lent.{syncOf, arraysOf}
+use Rattle.phases.specs.declared.Numbers.{Numbers}
+use Rattle.phases.specs.Sync.{lackOf}
+use Rattle.phases.specs.Lent.{syncOf, arraysOf}
+use Rattle.session.specs.Whole.{ofSync}
 use Rattle.session.proofs.TxListSync.lacks.Statement.{statement}
 use Rattle.session.proofs.TxListSync.lacks.Tie as tie
 
@@ -17,7 +18,7 @@ returns : tie.Need-returns
 returns c =
     let n = c .before .before .before in
     let b = n .before .args in
-    let s = b .t1 in
+    let s = ofSync (b .t1) in
     let a = arraysOf s in
     c .lacks .ensures (a .wanted) (a .owed) (a .fresh) (a .list) (a .saved) (a .present) (a .refused) (a .f2) (n .numbers-of .ensures .1)
     ∙ ap (λ (x : Numbers). lackOf (syncOf x (arraysOf s)) (b .pgn)) (n .numbers-of .ensures .0)

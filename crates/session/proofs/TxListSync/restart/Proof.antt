@@ -1,9 +1,10 @@
 -- `session::TxListSync::restart` meets its contract. Assumes nothing.
 use mathlib.Core.Path.{ap, _∙_}
 use borrow.Author.Needs.{needs}
-use Rattle.session.specs.declared.Numbers.{Numbers}
-use Rattle.session.specs.Sync.{restarted}
-use Rattle.session.specs.Lent.{syncOf, arraysOf}
+use Rattle.phases.specs.declared.Numbers.{Numbers}
+use Rattle.phases.specs.Sync.{restarted}
+use Rattle.phases.specs.Lent.{syncOf, arraysOf}
+use Rattle.session.specs.Whole.{ofSync}
 use Rattle.session.proofs.TxListSync.restart.Statement.{statement}
 use Rattle.session.proofs.TxListSync.restart.Tie as tie
 
@@ -19,7 +20,7 @@ renewed-requires c κs = search needs
 returns : tie.Need-returns
 returns c =
     let n = c .before .before in
-    let s = n .before .args .self in
+    let s = ofSync (n .before .args .self) in
     c .renewed .ensures
     ∙ c .before .restart .ensures (arraysOf s) (n .numbers-of .ensures .1)
     ∙ ap (λ (x : Numbers). restarted (syncOf x (arraysOf s))) (n .numbers-of .ensures .0)

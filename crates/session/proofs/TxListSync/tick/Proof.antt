@@ -1,12 +1,11 @@
 -- `session::TxListSync::tick` meets its contract. Assumes nothing.
-use mathlib.Core.Path.{ap, _∙_}
+use mathlib.Core.Path.{_∙_}
 use borrow.Author.Needs.{needs}
 use lib.ListN.{length}
 use Rattle.tx_list.specs.Reading as model
-use Rattle.session.specs.declared.Called.{Called}
-use Rattle.session.specs.Sync.{toldCalled}
-use Rattle.session.specs.Lent.{arraysOf}
-use Rattle.session.specs.LentLaws.{left}
+use Rattle.phases.specs.Lent.{arraysOf}
+use Rattle.session.specs.WholeLaws.{left}
+use Rattle.session.specs.Whole.{ofSync}
 use Rattle.session.proofs.TxListSync.tick.Statement.{statement}
 use Rattle.session.proofs.TxListSync.tick.Tie as tie
 
@@ -27,9 +26,9 @@ returns c =
     let t = c .before .before .before in
     let n = t .before .before in
     let a = n .before .before .args in
-    let s = a .self in
+    let s = ofSync (a .self) in
     left s (n .numbers-of .ensures .0) (model.tick (a .time) (length (a .out .now))) (a .out .now)
-    (ap (λ (r : Called). toldCalled r (t .tick .last .1 .1 .0)) (c .answered .ensures) ∙ t .tick .ensures (arraysOf s) (n .numbers-of .ensures .1))
+    (c .answered .ensures (t .tick .last .1 .1 .0) ∙ t .tick .ensures (arraysOf s) (n .numbers-of .ensures .1))
 
 pub tick-spec : {M : Type 1} → statement M
 tick-spec = tie.close (tie.spec numbers-of-requires tick-requires answered-requires same-length returns)

@@ -1,6 +1,6 @@
 -- `session::opening::clear_sync` meets its contract. Assumes nothing.
 use borrow.Author.Needs.{needs}
-use Rattle.session.specs.OpeningLaws.{clear-by}
+use Rattle.session.specs.WholeLaws.{clear-by}
 use Rattle.tx_list.specs.Session.{knownMax}
 use Rattle.session.proofs.opening.clear_sync.Statement.{statement}
 use Rattle.session.proofs.opening.clear_sync.Tie as tie

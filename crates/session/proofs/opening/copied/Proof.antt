@@ -1,6 +1,6 @@
 -- `session::opening::copied` meets its contract. Assumes nothing.
 use borrow.Author.Needs.{needs}
-use Rattle.session.specs.OpeningLaws.{copied-by}
+use Rattle.session.specs.WholeLaws.{copied-by}
 use Rattle.session.proofs.opening.copied.Statement.{statement}
 use Rattle.session.proofs.opening.copied.Tie as tie
 

@@ -1,6 +1,7 @@
 -- `session::opening::new_sync` meets its contract. Assumes nothing.
 use borrow.Author.Needs.{needs}
-use Rattle.session.specs.OpeningLaws.{new-by}
+use Rattle.session.specs.Whole.{ofSync}
+use Rattle.session.specs.WholeLaws.{new-by}
 use Rattle.session.proofs.opening.new_sync.Statement.{statement}
 use Rattle.session.proofs.opening.new_sync.Tie as tie
 
@@ -25,7 +26,7 @@ copied-requires-3 c κs = search needs
 returns : tie.Need-returns
 returns c =
     let s = c .before .before .before .before .before .before .before .before .before in
-    new-by (c .before .before .before .before .before .before .before .clear-sync .result) (s .args .wanted .now) (s .args .learned) (c .before .before .before .before .before .before .before .clear-sync .ensures) (c .before .before .before .before .append .ensures) (c .before .before .copied .ensures) (c .before .copied2 .ensures) (c .copied3 .ensures)
+    new-by (ofSync (c .before .before .before .before .before .before .before .clear-sync .result)) (s .args .wanted .now) (s .args .learned) (c .before .before .before .before .before .before .before .clear-sync .ensures) (c .before .before .before .before .append .ensures) (c .before .before .copied .ensures) (c .before .copied2 .ensures) (c .copied3 .ensures)
 
 pub new-sync-spec : {M : Type 1} → statement M
 new-sync-spec =

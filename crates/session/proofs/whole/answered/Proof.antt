@@ -7,7 +7,7 @@ with-numbers-requires : tie.Need-with-numbers-requires
 with-numbers-requires c κs = search needs
 
 returns : tie.Need-returns
-returns c = rw (c .with-numbers .ensures)
+returns c = λ out i. record { number = c .before .before .args .a .number; count = c .before .before .args .a .count; sync = c .with-numbers .ensures i; out = out }
 
 pub answered-spec : {M : Type 1} → statement M
 answered-spec = tie.close (tie.spec with-numbers-requires returns)

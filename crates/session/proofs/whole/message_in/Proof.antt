@@ -3,7 +3,8 @@ use mathlib.Core.Path.{_∙_}
 use borrow.Author.Needs.{needs}
 use lib.ListN.{length}
 use Rattle.tx_list.specs.Reading as model
-use Rattle.session.specs.LentLaws.{left-message}
+use Rattle.session.specs.WholeLaws.{left-message}
+use Rattle.session.specs.Whole.{ofSync}
 use Rattle.session.proofs.whole.message_in.Statement.{statement}
 use Rattle.session.proofs.whole.message_in.Tie as tie
 
@@ -26,7 +27,7 @@ returns c =
     let b = n .before .before .before .before .before .before .before .before .before .before .before .before in
     let a = b .args in
     let r = m .message .result in
-    left-message (a .s) (n .numbers-of .ensures .0) (model.message (a .time) (a .payload .now) (length (a .out .now))) (a .out .now) (b .pre)
+    left-message (ofSync (a .s)) (n .numbers-of .ensures .0) (model.message (a .time) (a .payload .now) (length (a .out .now))) (a .out .now) (b .pre)
     ((λ i. record { number = r .number; count = r .count; sync = c .built .ensures i; out = m .message .last .1 .1 .1 .1 .1 .1 .1 .1 .1 .1 .1 .0 })
     ∙ m .message .ensures (a .s .held .f2) (n .numbers-of .ensures .1))
 

@@ -2,7 +2,8 @@
 use mathlib.Core.Path.{_≡_}
 use borrow.Author.Needs.{needs}
 use lib.ListN.{length}
-use Rattle.session.specs.Lent.{Fits, arraysOf}
+use Rattle.phases.specs.Lent.{Fits, arraysOf}
+use Rattle.session.specs.Whole.{ofSync}
 use Rattle.session.proofs.whole.numbers_of.Statement.{statement}
 use Rattle.session.proofs.whole.numbers_of.Tie as tie
 
@@ -32,7 +33,7 @@ learned-is :
     × (length (c .args .s .held .learned .refused .pgns) ≡ 256)
 learned-is c = let g = c .good .0 .1 .1 .1 .0 .1 .1 .1 .1 .1 .1 .1 .1 .0 in search needs
 
-fits : (c : tie.Start) → Fits (arraysOf (c .args .s))
+fits : (c : tie.Start) → Fits (arraysOf (ofSync (c .args .s)))
 fits c =
     record {
       wanted-64 = wanted-is c;
@@ -46,7 +47,7 @@ fits c =
     }
 
 returns : tie.Need-returns
-returns c = (rw (c .counts-of .ensures), fits (c .before))
+returns c = (rw (c .counts-of .ensures (c .before .args .s .state)), fits (c .before))
 
 pub numbers-of-spec : {M : Type 1} → statement M
 numbers-of-spec = tie.close (tie.spec counts-of-requires returns)

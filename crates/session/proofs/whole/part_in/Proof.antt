@@ -3,7 +3,8 @@ use mathlib.Core.Path.{_∙_}
 use borrow.Author.Needs.{needs}
 use lib.ListN.{length}
 use Rattle.tx_list.specs.Reading as model
-use Rattle.session.specs.LentLaws.{left-part}
+use Rattle.session.specs.WholeLaws.{left-part}
+use Rattle.session.specs.Whole.{ofSync}
 use Rattle.session.proofs.whole.part_in.Statement.{statement}
 use Rattle.session.proofs.whole.part_in.Tie as tie
 
@@ -26,7 +27,7 @@ returns c =
     let b = n .before .before .before .before .before .before .before .before .before .before .before .before in
     let a = b .args in
     let r = m .part .result in
-    left-part (a .s) (n .numbers-of .ensures .0) (model.message (a .time) (a .payload .now) (length (a .out .now))) (a .out .now) (b .pre)
+    left-part (ofSync (a .s)) (n .numbers-of .ensures .0) (model.message (a .time) (a .payload .now) (length (a .out .now))) (a .out .now) (b .pre)
     ((λ i. record { number = r .number; count = r .count; sync = c .built .ensures i; out = m .part .last .1 .1 .1 .1 .1 .1 .1 .1 .1 .0 })
     ∙ m .part .ensures (a .s .held .fresh .pgns) (a .s .held .list .pgns) (a .s .held .learned .saved .pgns) (n .numbers-of .ensures .1))
 

@@ -7,7 +7,7 @@ with-numbers-requires : tie.Need-with-numbers-requires
 with-numbers-requires c κs = search needs
 
 returns : tie.Need-returns
-returns c = rw (c .with-numbers .ensures)
+returns c = λ i. record { number = c .before .before .args .r .number; sync = c .with-numbers .ensures i }
 
 pub renewed-spec : {M : Type 1} → statement M
 renewed-spec = tie.close (tie.spec with-numbers-requires returns)
