@@ -9,8 +9,7 @@ use Rattle.session.proofs.Demand3 as proved
 use Rattle.session.proofs.StartUp as lives
 use Rattle.session.proofs.LentDemand as lent
 use Rattle.session.proofs.Tilt.{wanted, nothing, newer, older, newer-tilts, older-tilts}
-use Rattle.session.specs.declared.TxListSync.{TxListSync}
-use Rattle.session.specs.Sync.{kind, begunWith}
+use Rattle.phases.specs.Sync.{Sync, kind, begunWith}
 use Rattle.tx_list.specs.Live.{startUp}
 use mathlib.Core.List.{List}
 use Prim.Native.Nat.{ℕ}
@@ -33,10 +32,10 @@ pub in-lent-memory : InLentMemory
 in-lent-memory = lent.in-lent-memory
 
 -- the seat's reminder, PGN 126983, with a gateway of firmware 2.690 (Format 2) and with one whose firmware is not known (Format 1)
-pub tilt-2690 : (last : TxListSync) (bytes : List ℕ) → Played (begunWith wanted nothing .sync) (startUp kind wanted nothing newer) last bytes
+pub tilt-2690 : (last : Sync) (bytes : List ℕ) → Played (begunWith wanted nothing .sync) (startUp kind wanted nothing newer) last bytes
     → StartedUp wanted nothing newer last bytes
 tilt-2690 = newer-tilts
 
-pub tilt-older : (last : TxListSync) (bytes : List ℕ) → Played (begunWith wanted nothing .sync) (startUp kind wanted nothing older) last bytes
+pub tilt-older : (last : Sync) (bytes : List ℕ) → Played (begunWith wanted nothing .sync) (startUp kind wanted nothing older) last bytes
     → StartedUp wanted nothing older last bytes
 tilt-older = older-tilts

@@ -22,7 +22,7 @@ use Rattle.tx_list.specs.Moves.{Moved, stays, waitsFrom, answered, committed, a
 use Rattle.tx_list.proofs.LiveLists.{false-true}
 use Rattle.phases.specs.Sync.{Sync, kind, Told, called, stepOf, wroteStep}
 use Rattle.phases.specs.declared.Numbers.{Numbers}
-use Rattle.phases.specs.Lent.{Arrays, Fits, syncOf, soundFor, waitsIn, dueAt, mindsIn, idleAt, ignoredAt}
+use Rattle.phases.specs.Lent.{Arrays, Fits, syncOf, refusedWith, Admitted, soundFor, waitsIn, dueAt, mindsIn, idleAt, ignoredAt}
 use Rattle.phases.specs.LentLaws.{sized, sound-flat}
 use Rattle.phases.proofs.CallLaws.{byVerdict, tick-by, message-by, unsound, judged, tick-taken, message-far, message-long, message-small, message-full, message-taken}
 use Rattle.phases.proofs.HeardLaws.{within}
@@ -35,38 +35,42 @@ module _ (x : Numbers) (a : Arrays) {y : Bool} (e : y ≡ soundFor x) where
   pub sound-yes : not y ≡ false → soundIn kind (syncOf x a) ≡ true
   sound-yes n = sym (sound-flat x a) ∙ sym e ∙ not-false y n
 
--- a message, by the tests of `message` and `part`
-module _ (x : Numbers) (t : ℕ) (m out : List ℕ) (a : Arrays) (z : Fits a) {y : Bool} (e : y ≡ soundFor x) where
+-- a message, by the tests of `barred`
+module _ (x : Numbers) (t : ℕ) (m : List ℕ) (room : ℕ) (out : List ℕ) (a : Arrays) (z : Fits a) {y : Bool} (e : y ≡ soundFor x) where
   abbrev Answers : Told → Type 0
-  Answers r = r ≡ called (syncOf x a) (message t m (length out)) out
+  Answers r = r ≡ called (syncOf x a) (message t m room) out
 
   abbrev kept : ℕ → Told
-  kept n = record { number = n; count = 0; sync = syncOf x a; out = out }
+  kept n = refusedWith n x a out
 
   pub message-16 : not y ≡ true → Answers (kept 16)
-  message-16 n = message-by (syncOf x a) t m (length out) out (refuse 16) (sized x a z) (unsound _ _ (sound-no x a e n))
+  message-16 n = message-by (syncOf x a) t m room out (refuse 16) (sized x a z) (unsound _ _ (sound-no x a e n))
 
   module _ (s : not y ≡ false) where
-    by : (v : Verdict) → vetMessage t m (length out) (fullIn kind (x .state) (syncOf x a) m) ≡ v → Answers (byVerdict v (syncOf x a) (heard kind (x .state) (syncOf x a) t m) out)
-    by v g = message-by (syncOf x a) t m (length out) out v (sized x a z) (judged _ _ (sound-yes x a e s) ∙ g)
+    by : (v : Verdict) → vetMessage t m room (fullIn kind (x .state) (syncOf x a) m) ≡ v → Answers (byVerdict v (syncOf x a) (heard kind (x .state) (syncOf x a) t m) out)
+    by v g = message-by (syncOf x a) t m room out v (sized x a z) (judged _ _ (sound-yes x a e s) ∙ g)
 
     pub message-13 : 18446744073709541615 < t → Answers (kept 13)
-    message-13 h = by (refuse 13) (message-far t m (length out) _ h)
+    message-13 h = by (refuse 13) (message-far t m room _ h)
 
     module _ (h : t ≤ 18446744073709541615) where
       pub message-6 : 255 < length m → Answers (kept 6)
-      message-6 g = by (refuse 6) (message-long t m (length out) _ h g)
+      message-6 g = by (refuse 6) (message-long t m room _ h g)
 
       module _ (g : length m ≤ 255) where
-        pub message-7 : length out < 32 → Answers (kept 7)
-        message-7 k = by (refuse 7) (message-small t m (length out) _ h g k)
+        pub message-7 : room < 32 → Answers (kept 7)
+        message-7 k = by (refuse 7) (message-small t m room _ h g k)
 
-        module _ (k : 32 ≤ length out) where
+        module _ (k : 32 ≤ room) where
           pub message-14 : fullIn kind (x .state) (syncOf x a) m ≡ true → Answers (kept 14)
-          message-14 f = by (refuse 14) (message-full t m (length out) _ h g k f)
+          message-14 f = by (refuse 14) (message-full t m room _ h g k f)
 
-          pub message-0 : fullIn kind (x .state) (syncOf x a) m ≡ false → Answers (wroteStep (stepOf (heard kind (x .state) (syncOf x a) t m)) out)
-          message-0 f = by taken (message-taken t m (length out) _ h g k f)
+-- a message that no test refuses does what the phase says
+pub admitted : (x : Numbers) (t : ℕ) (m : List ℕ) (room : ℕ) (out : List ℕ) (a : Arrays) → Fits a → Admitted x t m room
+    → wroteStep (stepOf (heard kind (x .state) (syncOf x a) t m)) out ≡ called (syncOf x a) (message t m room) out
+admitted x t m room out a z p =
+    message-by (syncOf x a) t m room out taken (sized x a z)
+    (judged _ _ (sym (sound-flat x a) ∙ p .sound) ∙ message-taken t m room _ (p .early) (p .short) (p .roomy) (p .unfilled a))
 
 -- is_idle, by its tests
 module _ (x : Numbers) (t room : ℕ) where

@@ -2,7 +2,7 @@
 use mathlib.Core.Path.{_≡_}
 use mathlib.Core.Bool.{Bool, true, false, not, _&&_}
 use mathlib.Core.List.{List}
-use Prim.Native.Nat.{ℕ, _+_}
+use Prim.Native.Nat.{ℕ, _+_, _≤_}
 use lib.Dec.{leb, ltb}
 use lib.Seq.{sets}
 use lib.ListN.{length}
@@ -13,9 +13,10 @@ use Rattle.bounds.specs.declared.Counts.{Counts}
 use Rattle.bounds.specs.Bounds.{soundAt}
 use Rattle.views.specs.Told.{isFormat2}
 use Rattle.tx_list.specs.Views.{starts, isMode}
+use Rattle.tx_list.specs.Moves.{fullIn}
 use Rattle.tx_list.specs.declared.State.{State}
 use Rattle.tx_list.specs.declared.State.the-variants.{AwaitStartup, ReadAt, ReadingF2, Reading as ReadingF1, Enabling, Committing, Activating, Done}
-use Rattle.phases.specs.Sync.{Sync, Begun, learnedIn, recordFits, commandsOf, Stepped, Told}
+use Rattle.phases.specs.Sync.{kind, Sync, Begun, learnedIn, recordFits, commandsOf, Stepped, Told}
 use Rattle.phases.specs.declared.Totals.{Totals}
 use Rattle.phases.specs.declared.Numbers.{Numbers}
 use Rattle.phases.specs.declared.Answered.{Answered}
@@ -217,6 +218,18 @@ unfoldable pub ignoredAt : Numbers → ℕ → List ℕ → ℕ → Bool
 ignoredAt x t m room =
     soundFor x && (leb t 18446744073709541615 && (leb (length m) 255 && (leb 32 room && not (mindsIn (x .state) m))))
 
+-- a call that was refused: nothing is written and nothing changes
+abbrev pub refusedWith : ℕ → Numbers → Arrays → List ℕ → Told
+refusedWith n x a out = record { number = n; count = 0; sync = syncOf x a; out = out }
+
+-- a message that no test refuses ("Session message 16, 13, 6, 7, 14")
+pub record Admitted (x : Numbers) (t : ℕ) (m : List ℕ) (room : ℕ) : Type 0 where
+  pub sound : soundFor x ≡ true
+  pub early : t ≤ 18446744073709541615
+  pub short : length m ≤ 255
+  pub roomy : 32 ≤ room
+  pub unfilled : (a : Arrays) → fullIn kind (x .state) (syncOf x a) m ≡ false
+
 -- a message while Format 2 is read is for `part`, any other for `message`: the other one answers 100 and does nothing
 abbrev pub readsF2 : State → Bool
 readsF2 AwaitStartup = false
@@ -229,7 +242,7 @@ readsF2 Activating = false
 readsF2 Done = false
 
 abbrev pub notHere : Numbers → Arrays → List ℕ → Told
-notHere x a out = record { number = 100; count = 0; sync = syncOf x a; out = out }
+notHere x a out = refusedWith 100 x a out
 
 -- begin: the record's lists stay where they stand; every other count is 0
 abbrev pub openedWith : Counts → ℕ → Numbers

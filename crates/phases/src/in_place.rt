@@ -23,7 +23,30 @@ ghost use lib.ListN.{length};
 ghost use Rattle.field.specs.Pick.{pick};
 ghost use Rattle.tx_list.specs.Reading as model;
 ghost use Rattle.phases.specs.Sync.{called, setTo, restarted, abandoned, doneOf, lackOf, toldLacks};
-ghost use Rattle.phases.specs.Lent.{Arrays, Fits, lent, syncOf, toldAnswer, toldParted, toldRenewed, readsF2, notHere, idleAt, ignoredAt, begunIn};
+ghost use Rattle.phases.specs.Lent.{Arrays, Fits, lent, syncOf, refusedWith, Admitted, toldAnswer, toldParted, toldRenewed, readsF2, notHere, idleAt, ignoredAt, begunIn};
+
+// Why a message is refused: 16, 13, 6, 7, 14; 0 where it is taken.
+fn barred(x: Numbers, time: u64, payload: &[u8], room: usize) -> u8
+    ensures { λ r. ⌜ ((r ≡ 0 → ⊥) → (a : Arrays) (out : List ℕ) → Fits a → refusedWith r x a out ≡ called (syncOf x a) (model.message time (now (payload .entry)) room) out) ⌝ }
+    ensures { λ r. ⌜ (r ≡ 0 → Admitted x time (now (payload .entry)) room) ⌝ }
+{
+    if !sound::is_sound(x) {
+        return 16;
+    }
+    if TICK_LIMIT < time {
+        return 13;
+    }
+    if 255 < payload.len() {
+        return 6;
+    }
+    if room < 32 {
+        return 7;
+    }
+    if reading::is_full(x, payload) {
+        return 14;
+    }
+    0
+}
 
 impl Numbers {
     // A session that wants these PGNs. Its record is what stands in the arrays of saved, present and refused, with the counts that the
@@ -70,20 +93,9 @@ impl Numbers {
         if parts::reads_f2(st) {
             return write::refused(100, self);
         }
-        if !sound::is_sound(self) {
-            return write::refused(16, self);
-        }
-        if TICK_LIMIT < time {
-            return write::refused(13, self);
-        }
-        if 255 < payload.len() {
-            return write::refused(6, self);
-        }
-        if out.len() < 32 {
-            return write::refused(7, self);
-        }
-        if reading::is_full(self, payload) {
-            return write::refused(14, self);
+        let number = barred(self, time, payload, out.len());
+        if number != 0 {
+            return write::refused(number, self);
         }
         let step = reading::heard(
             self,
@@ -120,17 +132,9 @@ impl Numbers {
         if !parts::reads_f2(st) {
             return parts::refused_part(100, self, f2);
         }
-        if !sound::is_sound(self) {
-            return parts::refused_part(16, self, f2);
-        }
-        if TICK_LIMIT < time {
-            return parts::refused_part(13, self, f2);
-        }
-        if 255 < payload.len() {
-            return parts::refused_part(6, self, f2);
-        }
-        if out.len() < 32 {
-            return parts::refused_part(7, self, f2);
+        let number = barred(self, time, payload, out.len());
+        if number != 0 {
+            return parts::refused_part(number, self, f2);
         }
         let step = parts::on_f2(
             self,
