@@ -4,7 +4,7 @@
 // 6 activates, 7 done); 1 attempt (modulo 2^32); how many there are: 2 wanted, 3 owed, 4 fresh, 5 of the list being read,
 // 6 proprietary, 7 known, 8 saved, 9 present, 10 refused; 11 due time; 12 a list is known (not 0), 13 and whole; 14 the firmware
 // was told, 15 its version (modulo 2^16); 16 no part of Format 2 is in hand.
-// No function requires anything: a phase over 7 is taken for done here, and the exports refuse it before they ask.
+// No function requires anything: `state_of` takes a phase over 7 for done, and the exports refuse it before they call it.
 use bounds::Counts;
 use tx_list::State;
 ghost use mathlib.Core.Path.{_≡_};
