@@ -1,5 +1,5 @@
 #!/usr/bin/env bash
-# Races canboat's Rust, built unchanged, against the port's static library, and prints a row for each thing that both do.
+# Races canboat's Rust, built unchanged, against the port's static libraries, and prints a row for each thing that both do.
 # canboat's sources: the folder CANBOAT_SRC, by default the papers' folder beside the repository. Exit status 1: nothing was raced, or
 # the two sides differ.
 set -u
@@ -11,27 +11,27 @@ fail() {
 [ -z "${CANBOAT_SRC:-}" ] || CANBOAT_SRC=$(realpath -m "$CANBOAT_SRC")
 cd "$(dirname "${BASH_SOURCE[0]}")/.." || exit 1
 export CANBOAT_SRC=${CANBOAT_SRC:-$PWD/../shared/docs/src}
-[ "$(uname -m)" = x86_64 ] || fail "the static library is for x86-64"
+[ "$(uname -m)" = x86_64 ] || fail "the static libraries are for x86-64"
 command -v rt >/dev/null 2>&1 || fail "no rt here, so no port to race"
 command -v cargo >/dev/null 2>&1 || fail "no cargo here, so no Rust to race"
 [ -d "$CANBOAT_SRC" ] || fail "canboat's sources are not at hand (CANBOAT_SRC), so no Rust to race"
 
 build() { cargo build --release --offline --locked --quiet --manifest-path bench/Cargo.toml --target-dir bench/target "$@"; }
 
-# The library is made where it is missing or older than a source. What it stands on is proved first, two crates at a time; the session is
-# proved alone, and the Rust is compiled beside it.
-lib=target/staticlib/libngt1.a
+# The libraries are made where the session's is missing or older than a source. What they stand on is proved first, two crates at a time;
+# the session is proved alone, and the Rust is compiled beside it.
+lib=target/staticlib/libngt1_session.a
 mkdir -p target
-if [ ! -f "$lib" ] || [ -n "$(find crates.txt crates/*/src crates/*/specs crates/*/proofs -newer "$lib" -type f 2>/dev/null | head -n 1)" ]; then
-    below=$(sed -n 's/^ngt1: //p' crates.txt)
+if [ ! -f target/staticlib/libngt1.a ] || [ ! -f "$lib" ] || [ -n "$(find crates.txt crates/*/src crates/*/specs crates/*/proofs -newer "$lib" -type f 2>/dev/null | head -n 1)" ]; then
+    below=$(sed -n 's/^ngt1_session: //p' crates.txt)
     # shellcheck disable=SC2086
-    { rt check $below && rt staticlib ngt1; } >target/bench.log 2>&1 &
+    { rt check $below ngt1 && rt staticlib ngt1 && rt staticlib ngt1_session; } >target/bench.log 2>&1 &
     port=$!
     while kill -0 "$port" 2>/dev/null && [ ! -f target/rlib/views.rlib ]; do sleep 1; done
     build --package oracle --lib || fail "the Rust does not build"
     wait "$port" || {
         tail -n 5 target/bench.log
-        fail "no static library"
+        fail "no static libraries"
     }
 fi
 build || fail "the driver does not build"

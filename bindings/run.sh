@@ -1,23 +1,26 @@
 #!/usr/bin/env bash
-# Compiles the C and the Rust example against the static library and runs them; one line for each.
-# The library is built where it is missing or older than a source. A compiler that is missing is passed over.
+# Compiles the C and the Rust example against the two static libraries and runs them; one line for each.
+# A library is built where it is missing or older than a source. A compiler that is missing is passed over.
 # Exit status 1 where anything failed.
 set -u
 cd "$(dirname "${BASH_SOURCE[0]}")/.." || exit 1
-lib=target/staticlib/libngt1.a
+libs="target/staticlib/libngt1_session.a target/staticlib/libngt1.a"
 
 if [ "$(uname -m)" != x86_64 ]; then
-    echo "bindings: passed over, the library is for x86-64"
+    echo "bindings: passed over, the libraries are for x86-64"
     exit 0
 fi
 mkdir -p target
-if [ ! -f "$lib" ] || [ -n "$(find crates.txt crates/*/src crates/*/specs crates/*/proofs -newer "$lib" -type f 2>/dev/null | head -n 1)" ]; then
-    rt staticlib ngt1 >target/bindings.log 2>&1 || {
-        tail -n 5 target/bindings.log
-        echo "bindings: FAILED, no static library"
-        exit 1
-    }
-fi
+for lib in $libs; do
+    if [ ! -f "$lib" ] || [ -n "$(find crates.txt crates/*/src crates/*/specs crates/*/proofs -newer "$lib" -type f 2>/dev/null | head -n 1)" ]; then
+        name=$(basename "$lib" .a)
+        rt staticlib "${name#lib}" >target/bindings.log 2>&1 || {
+            tail -n 5 target/bindings.log
+            echo "bindings: FAILED, no $name.a"
+            exit 1
+        }
+    fi
+done
 work=$(mktemp -d target/bindings.XXXXXX) || exit 1
 trap 'rm -rf "$work"' EXIT
 status=0
@@ -41,6 +44,7 @@ run() {
     fi
 }
 
-run c cc -std=c99 -pedantic -Wall -Wextra -Werror -O2 -I bindings/c bindings/c/example.c "$lib" -o "$work/c"
-run rust rustc --edition 2024 -D warnings -O bindings/rust/example.rs -L target/staticlib -l static=ngt1 -o "$work/rust"
+# shellcheck disable=SC2086
+run c cc -std=c99 -pedantic -Wall -Wextra -Werror -O2 -I bindings/c bindings/c/example.c $libs -o "$work/c"
+run rust rustc --edition 2024 -D warnings -O bindings/rust/example.rs -L target/staticlib -l static=ngt1_session -l static=ngt1 -o "$work/rust"
 exit $status

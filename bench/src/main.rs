@@ -22,7 +22,7 @@ fn same<T: PartialEq + Debug + ?Sized>(name: &str, rust: &T, port: &T) {
 
 fn main() {
     println!(
-        "# Rust: canboat's files unchanged, opt-level 3, no overflow checks. Port: libngt1.a through bindings/rust/ngt1.rs."
+        "# Rust: canboat's files unchanged, opt-level 3, no overflow checks. Port: libngt1_session.a and libngt1.a through bindings/rust/ngt1.rs."
     );
     println!("# Both for any x86-64, no link-time optimisation; runs in turn in one process, best of 31 or more.");
     println!(

@@ -1,6 +1,7 @@
 /*
  * NGT-1 framing (messages into frames, bytes into events), N2K records, Format 2 lists and the start-up session.
- * Links with libngt1.a.
+ * Links with libngt1_session.a, which has the functions ngt1_session_.., and libngt1.a, which has the others; a program that has no
+ * session links libngt1.a alone.
  *
  * One convention for every function:
  *   - A slice is a pointer and a length in elements. The pointer is not NULL and has as many elements as the length says,

@@ -1,4 +1,5 @@
-//! NGT-1 framing, N2K records, Format 2 lists and the start-up session. Links with `libngt1.a`; `bindings/c/ngt1.h` says what the functions do.
+//! NGT-1 framing, N2K records, Format 2 lists and the start-up session. Links with `libngt1_session.a` and
+//! `libngt1.a`, a program that has no session with `libngt1.a` alone; `bindings/c/ngt1.h` says what the functions do.
 #![allow(dead_code)]
 
 unsafe extern "C" {

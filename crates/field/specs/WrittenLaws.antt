@@ -1,12 +1,13 @@
 -- Laws of writing: runs of stores (`sets`), and a second writer that is lent the rest, `&mut out[n..]`. Assumes nothing.
-use Prim.Native.Nat.{ℕ, suc, _+_, _-_, _≤_}
+use Prim.Native.Nat.{ℕ, suc, _+_, _-_, _≤_, _<_}
 use native.Mathlib.Nat.{add-zero, zero-add, add-suc, suc-add}
+use native.Mathlib.Numerals.{add-one}
 use native.Mathlib.Omega.{arith}
 use mathlib.Core.Path.{_≡_, ap, ap₂, sym, _∙_}
 use mathlib.Core.List.{List, [], _∷_, _++_, append-assoc, append-nil}
 use borrow.Rule.Slice.PartMut.{putMid}
-use lib.ListN.{length, take, drop, set, length-append, length-drop}
-use lib.Seq.{sets, sets-eq, take-append-seam, drop-append-seam, take-all, drop-length, drop-drop}
+use lib.ListN.{length, take, drop, getD, set, length-append, length-drop}
+use lib.Seq.{sets, sets-eq, take-suc, take-append-seam, drop-append-seam, take-all, length-take-le, drop-length, drop-drop}
 use Rattle.field.specs.Written.{written}
 
 -- two runs of stores, one after the other
@@ -19,6 +20,17 @@ sets-append (x ∷ xs) ys l i =
 -- a run of stores goes on where the one before it ended
 pub sets-then : (xs ys l o : List ℕ) (i n : ℕ) → o ≡ sets l i xs → n ≡ i + length xs → sets l i (xs ++ ys) ≡ sets o n ys
 sets-then xs ys l o i n p q = rw (p, q) (sets-append xs ys l i)
+
+-- one number more of a list that is stored number by number
+pub sets-more : (numbers l o : List ℕ) (i : ℕ) → i < length numbers → o ≡ sets l 0 (take i numbers)
+    → set o i (getD numbers i 0) ≡ sets l 0 (take (i + 1) numbers)
+sets-more numbers l o i h e =
+    let t : take (i + 1) numbers ≡ take i numbers ++ (getD numbers i 0 ∷ []) = rw add-one (take-suc numbers i 0 h) in
+    let n : i ≡ 0 + length (take i numbers) = omega (arith, length-take-le i numbers (omega arith)) in
+    sym (ap (sets l 0) t ∙ sets-then (take i numbers) (getD numbers i 0 ∷ []) l o 0 i e n)
+
+pub sets-all : (numbers l o : List ℕ) (i : ℕ) → length numbers ≤ i → o ≡ sets l 0 (take i numbers) → o ≡ sets l 0 numbers
+sets-all numbers l o i h e = e ∙ ap (sets l 0) (take-all i numbers h)
 
 -- a run of stores from the start on is what `written` says
 pub sets-written : (u old : List ℕ) → length u ≤ length old → sets old 0 u ≡ written u old

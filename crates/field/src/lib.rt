@@ -1,10 +1,11 @@
-// The bottom layer: numbers in bytes, the lowest byte first, read from a slice and written as an array.
+// The bottom layer: numbers in bytes, the lowest byte first, read from a slice and written as an array; and numbers into a lent answer.
 // Framing, records, replies, commands and lists stand above it; specs/ has the definitions and laws that they share.
 // No function here requires anything: a byte past the end of a slice counts as 0.
 ghost use mathlib.Core.Path.{_≡_};
-ghost use Prim.Native.Nat.{_+_};
+ghost use Prim.Native.Nat.{_+_, _≤_, _<_};
 ghost use lib.Dec.{leb};
-ghost use lib.ListN.{getD};
+ghost use lib.ListN.{length, getD};
+ghost use lib.Seq.{sets};
 ghost use Rattle.field.specs.Fields.{field, bytesOf, signed32};
 
 pub fn byte_at(s: &[u8], at: usize) -> u8
@@ -95,4 +96,19 @@ pub fn le32(x: u32) -> [u8; 4]
         (x / 256 / 256 % 256) as u8,
         (x / 256 / 256 / 256 % 256) as u8,
     ]
+}
+
+// Writes the numbers into the first places of an answer that has as many, and returns 1; one with fewer is left as it is: 0.
+pub fn give(answer: &mut [u64], numbers: &[u64]) -> u64
+    ensures { λ r. ⌜ (length (now (answer .entry)) < length (now (numbers .entry)) → (r ≡ 0) × (now (answer .exit) ≡ now (answer .entry))) × (length (now (numbers .entry)) ≤ length (now (answer .entry)) → (r ≡ 1) × (now (answer .exit) ≡ sets (now (answer .entry)) 0 (now (numbers .entry)))) ⌝ }
+{
+    if answer.len() < numbers.len() {
+        return 0;
+    }
+    let mut i = 0;
+    while i < numbers.len() {
+        answer[i] = numbers[i];
+        i += 1;
+    }
+    1
 }

@@ -1,14 +1,11 @@
 -- The convention of every exported function: results go into a lent answer, or nothing is done. Assumes nothing.
-use Prim.Native.Nat.{ℕ, _+_, _≤_, _<_}
-use native.Mathlib.Numerals.{add-one}
-use native.Mathlib.Omega.{arith}
-use mathlib.Core.Path.{_≡_, ap, sym, _∙_}
-use mathlib.Core.List.{List, [], _∷_, _++_}
+use Prim.Native.Nat.{ℕ, _≤_, _<_}
+use mathlib.Core.Path.{_≡_}
+use mathlib.Core.List.{List}
 use borrow.Author.Tests.{lt-ltb, le-ltb}
-use lib.ListN.{length, take, getD, set}
+use lib.ListN.{length}
 use lib.Dec.{ltb}
-use lib.Seq.{sets, take-suc, take-all, length-take-le}
-use Rattle.field.specs.WrittenLaws.{sets-then}
+use lib.Seq.{sets}
 use Rattle.field.specs.Pick.{pick}
 
 -- what a call returns, and what it leaves in the lent bytes and in the lent answer
@@ -44,14 +41,3 @@ pub answering-done : {n need : ℕ} {r : Reply} (bytes answer l : List ℕ) {o b
     → reply l b ≡ r → called n b o ≡ answering need r bytes answer
 unfolding answering
 answering-done bytes answer l h g e = rw (le-ltb _ _ h, ← e, g .0, g .1)
-
--- one number more of a list that is stored number by number
-pub sets-more : (numbers l o : List ℕ) (i : ℕ) → i < length numbers → o ≡ sets l 0 (take i numbers)
-    → set o i (getD numbers i 0) ≡ sets l 0 (take (i + 1) numbers)
-sets-more numbers l o i h e =
-    let t : take (i + 1) numbers ≡ take i numbers ++ (getD numbers i 0 ∷ []) = rw add-one (take-suc numbers i 0 h) in
-    let n : i ≡ 0 + length (take i numbers) = omega (arith, length-take-le i numbers (omega arith)) in
-    sym (ap (sets l 0) t ∙ sets-then (take i numbers) (getD numbers i 0 ∷ []) l o 0 i e n)
-
-pub sets-all : (numbers l o : List ℕ) (i : ℕ) → length numbers ≤ i → o ≡ sets l 0 (take i numbers) → o ≡ sets l 0 numbers
-sets-all numbers l o i h e = e ∙ ap (sets l 0) (take-all i numbers h)

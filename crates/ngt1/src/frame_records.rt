@@ -1,5 +1,5 @@
 // N2K records in numbers. Refusals: 9 a command that is not 93, 8 a payload under 11 bytes, 10 data past the payload's end.
-use super::give;
+use field::give;
 ghost use mathlib.Core.Path.{_≡_};
 ghost use mathlib.Core.List.{[]};
 ghost use Rattle.ngt1.specs.Convention.{called};

@@ -1,7 +1,7 @@
 // Framing in numbers. Phases: 0 Idle, 1 InFrame, 2 EscapeOutside, 3 EscapeInside.
 // Kinds: 0 nothing; 100 a message (command, payload length); errors 1, 2, 3 (declared, actual), 4 (the byte), 5;
 // refusals 16 and 7. A number over 3 is no phase: refusal 16.
-use super::give;
+use field::give;
 use framing::Decoder;
 use framing::Encoded;
 use framing::Event;

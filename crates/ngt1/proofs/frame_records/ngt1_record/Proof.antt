@@ -44,7 +44,7 @@ returns-2 : tie.Need-returns-2
 returns-2 c =
     let p = c .before .before .before .before in
     let r = p .before .before .before .before .before .before .before .before .before in
-    reads-done _ _ _ (r .to-raw-frame .result) (r .before .if1 .left) (r .to-raw-frame .ensures) (p .place-of .ensures) (c .before .before .give .ensures)
+    reads-done _ _ _ (r .to-raw-frame .result) (r .before .if1 .left) (r .to-raw-frame .ensures) (p .place-of .ensures) (c .before .before .give .ensures .1 (r .before .if1 .left))
 
 pub ngt1-record-spec : {M : Type 1} → statement M
 ngt1-record-spec =

@@ -46,7 +46,7 @@ returns-2 c =
     let q = m .before .before .before .before in
     let l = q .before .before in
     let e = ap (λ (x : Encoded). toldEncoded x (q .encode-ngt-message .last .1 .1 .0)) (sym (m .count .given .1)) ∙ q .encode-ngt-message .ensures in
-    encodes-done _ _ _ _ _ (l .if1 .left) e refl (c .before .before .give .ensures)
+    encodes-done _ _ _ _ _ (l .if1 .left) e refl (c .before .before .give .ensures .1 (l .if1 .left))
 
 same-length-3 : tie.Need-same-length-3
 same-length-3 c = search needs
@@ -60,7 +60,7 @@ returns-3 c =
     let q = m .before .before .before .before in
     let l = q .before .before in
     let e = ap (λ (x : Encoded). toldEncoded x (q .encode-ngt-message .last .1 .1 .0)) (sym (m .number .given .1)) ∙ q .encode-ngt-message .ensures in
-    encodes-done _ _ _ _ _ (l .if1 .left) e refl (c .before .before .give2 .ensures)
+    encodes-done _ _ _ _ _ (l .if1 .left) e refl (c .before .before .give2 .ensures .1 (l .if1 .left))
 
 pub ngt1-encode-spec : {M : Type 1} → statement M
 ngt1-encode-spec =

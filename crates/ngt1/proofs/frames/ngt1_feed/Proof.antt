@@ -19,7 +19,7 @@ same-length c = search needs
 returns-2 : tie.Need-returns-2
 returns-2 c =
     let h = c .before .before .before .before .before in
-    feeds-none _ _ _ _ _ (h .before .if1 .left) (h .if2 .taken) (c .before .before .give .ensures)
+    feeds-none _ _ _ _ _ (h .before .if1 .left) (h .if2 .taken) (c .before .before .give .ensures .1 (h .before .if1 .left))
 
 phase-of-requires : tie.Need-phase-of-requires
 phase-of-requires c κs = search needs
@@ -52,7 +52,7 @@ returns-3 c =
     let p = t .before .before .before .before in
     let h = p .before .before in
     feeds-done _ _ _ _ _ (p .push-bytes .result) (h .before .before .if1 .left) (h .before .if2 .left) (h .phase-of .ensures) (p .push-bytes .ensures)
-    (t .told-of .ensures) (n .number-of .ensures) (c .before .before .give2 .ensures)
+    (t .told-of .ensures) (n .number-of .ensures) (c .before .before .give2 .ensures .1 (h .before .before .if1 .left))
 
 pub ngt1-feed-spec : {M : Type 1} → statement M
 ngt1-feed-spec =

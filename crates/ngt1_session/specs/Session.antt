@@ -1,0 +1,130 @@
+-- The session in the caller's memory, as numbers and arrays (Lent of the crate session). Assumes nothing.
+use Prim.Native.Nat.{ℕ, _+_, _%_, _≤_}
+use mathlib.Core.Path.{_≡_}
+use mathlib.Core.Bool.{Bool, true, false, not, _&&_}
+use mathlib.Core.List.{List, [], _∷_}
+use lib.Dec.{eqb, leb, ltb}
+use lib.ListN.{length, getD, set}
+use lib.Seq.{sets}
+use Rattle.tx_list.specs.Views.{groupCount, pgnsAt}
+use Rattle.field.specs.Pick.{pick}
+use Rattle.lists.specs.declared.F2List.{F2List}
+use Rattle.phases.specs.Sync.{Sync, Begun, Told, called, Said, says, refused}
+use Rattle.phases.specs.declared.Numbers.{Numbers}
+use Rattle.tx_list.specs.Reading.{message}
+use Rattle.tx_list.specs.Session.{silent, fromWhole, fromPart}
+use Rattle.phases.specs.Lent.{Arrays, Fits, lent, syncOf, readsF2, mindsIn}
+use Rattle.numbers.specs.Layout.{isSet, one, stateOf, phaseOf, attemptOf, countsIn, calm}
+use Rattle.ngt1_session.specs.declared.Answer.{Answer}
+use Rattle.ngt1_session.specs.declared.PartAnswer.{PartAnswer}
+
+-- THE LAYOUT of the 17 numbers
+abbrev pub numbersIn : List ℕ → Numbers
+numbersIn n =
+    record {
+      state = stateOf (getD n 0 0) (getD n 1 0 % 4294967296);
+      totals =
+          record {
+            counts = countsIn n;
+            deadline = getD n 11 0;
+            read = isSet (getD n 12 0);
+            complete = isSet (getD n 13 0);
+            told = isSet (getD n 14 0);
+            version = getD n 15 0 % 65536;
+            blank = isSet (getD n 16 0);
+          };
+    }
+
+abbrev pub numbersAs : Numbers → List ℕ
+numbersAs x =
+    phaseOf (x .state)
+    ∷ attemptOf (x .state)
+    ∷ x .totals .counts .wanted
+    ∷ x .totals .counts .owed
+    ∷ x .totals .counts .fresh
+    ∷ x .totals .counts .list
+    ∷ x .totals .counts .proprietary
+    ∷ x .totals .counts .known
+    ∷ x .totals .counts .saved
+    ∷ x .totals .counts .present
+    ∷ x .totals .counts .refused
+    ∷ x .totals .deadline
+    ∷ one (x .totals .read)
+    ∷ one (x .totals .complete)
+    ∷ one (x .totals .told)
+    ∷ x .totals .version
+    ∷ one (x .totals .blank)
+    ∷ []
+
+-- what a call leaves in the caller's memory
+abbrev pub toldOn : Answer → List ℕ → Arrays → List ℕ → Told
+toldOn r n a out = record { number = r .number; count = r .count; sync = syncOf (numbersIn n) a; out = out }
+
+-- a phase over 7: 16, and nothing changes; else what the session's own function gives
+unfoldable pub answers : List ℕ → Arrays → List ℕ → (Sync → Told) → Told
+answers n a out go =
+    pick (ltb 7 (getD n 0 0)) (record { number = 16; count = 0; sync = syncOf (numbersIn n) a; out = out }) (go (syncOf (numbersIn n) a))
+
+abbrev pub hears : List ℕ → Arrays → ℕ → List ℕ → List ℕ → Told
+hears n a t m out =
+    answers n a out
+    (λ s.
+    pick (readsF2 (s .state)) (record { number = 100; count = 0; sync = s; out = out }) (called s (message t m (length out)) out))
+
+abbrev pub toldPartOn : PartAnswer → List ℕ → (F2List → Arrays) → List ℕ → Told
+toldPartOn r n a out = record { number = r .number; count = r .count; sync = syncOf (numbersIn n) (a (r .parts)); out = out }
+
+abbrev pub hearsPart : List ℕ → Arrays → ℕ → List ℕ → List ℕ → Told
+hearsPart n a t m out =
+    answers n a out
+    (λ s.
+    pick (readsF2 (s .state)) (called s (message t m (length out)) out) (record { number = 100; count = 0; sync = s; out = out }))
+
+-- a message starts with none of the bytes that are of interest in any phase
+unfoldable pub unheeded : List ℕ → Bool
+unheeded m =
+    not (eqb (getD m 0 0) 0x01)
+    && (not (eqb (getD m 0 0) 0x11)
+    && (not (eqb (getD m 0 0) 0x40)
+    && (not (eqb (getD m 0 0) 0x47) && (not (eqb (getD m 0 0) 0x49) && (not (eqb (getD m 0 0) 0x4B) && not (eqb (getD m 0 0) 0x4F))))))
+
+-- a message would be taken and change nothing, told by one look
+unfoldable pub ignoresOn : List ℕ → ℕ → List ℕ → ℕ → Bool
+ignoresOn n t m room =
+    calm n && (leb t 18446744073709541615 && (leb (length m) 255 && (leb 32 room && not (mindsIn (stateOf (getD n 0 0) 0) m))))
+
+-- begin, restart, setting firmware, abandoning
+abbrev pub renewedOn : ℕ → List ℕ → Arrays → Begun
+renewedOn r n a = record { number = r; sync = syncOf (numbersIn n) a }
+
+unfoldable pub renews : List ℕ → Arrays → Begun → Begun
+renews n a b = pick (ltb 7 (getD n 0 0)) (record { number = 16; sync = syncOf (numbersIn n) a }) b
+
+-- what is said of a PGN
+abbrev pub lackNumber : Said → ℕ
+lackNumber (says silent) = 0
+lackNumber (says fromWhole) = 1
+lackNumber (says fromPart) = 2
+lackNumber (refused k) = k
+
+unfoldable pub asks : List ℕ → ℕ → ℕ
+asks n k = pick (ltb 7 (getD n 0 0)) 16 k
+
+-- PGNs more of a Format 1 list: where they had room, the list, its count and the due time; else nothing
+abbrev pub addedOn : List ℕ → List ℕ → ℕ → List ℕ → Bool → List ℕ → List ℕ → Type 0
+addedOn n l t m true n′ l′ =
+    (getD n 5 0 + groupCount m ≤ 1024)
+    × (l′ ≡ sets l (getD n 5 0) (pgnsAt m 13 (groupCount m)))
+    × (n′ ≡ set (set n 5 (getD n 5 0 + groupCount m)) 11 (t + 10000))
+    × (length n ≡ 17)
+addedOn n l t m false n′ l′ = (n′ ≡ n) × (l′ ≡ l)
+
+-- where it is true, what is left is what the session's own function leaves, whatever stands in the other arrays; else nothing changes
+abbrev pub addsOn : List ℕ → List ℕ → ℕ → List ℕ → ℕ → Bool → List ℕ → List ℕ → Type 0
+addsOn n l t m room true n′ l′ =
+    (w o u k s p q out : List ℕ) (f : F2List)
+    → Fits (lent w o u l k s p q f)
+    → length out ≡ room
+    → _≡_ {A = Told} (record { number = 0; count = 0; sync = syncOf (numbersIn n′) (lent w o u l′ k s p q f); out = out })
+    (hears n (lent w o u l k s p q f) t m out)
+addsOn n l t m room false n′ l′ = (n′ ≡ n) × (l′ ≡ l)
