@@ -17,8 +17,8 @@ use Rattle.tx_list.specs.Moves.{formatIn, owesIn, sumsIn, soundIn, fullIn, inF1
 use Rattle.field.specs.Tests.{left-true}
 use Rattle.tx_list.proofs.MovesSound.{sound-counts, sound-owes, sound-sums}
 use Rattle.phases.specs.Sync.{Sync, kind, overList, Stepped, stepOf}
-use Rattle.phases.specs.declared.write.Step.{Step}
-use Rattle.phases.specs.declared.write.Sent.the-variants.{Nothing}
+use Rattle.phases.specs.declared.Step.{Step}
+use Rattle.phases.specs.declared.Sent.the-variants.{Nothing}
 use Rattle.phases.specs.declared.Numbers.{Numbers}
 use Rattle.phases.specs.Lent.{Arrays, syncOf, toldStep, readsF2}
 

@@ -22,8 +22,8 @@ use Rattle.phases.specs.declared.Numbers.{Numbers}
 use Rattle.phases.specs.declared.Answered.{Answered}
 use Rattle.phases.specs.declared.Parted.{Parted}
 use Rattle.phases.specs.declared.Renewed.{Renewed}
-use Rattle.phases.specs.declared.write.Step.{Step}
-use Rattle.phases.specs.declared.parts.PartStep.{PartStep}
+use Rattle.phases.specs.declared.Step.{Step}
+use Rattle.phases.specs.declared.PartStep.{PartStep}
 use Rattle.phases.specs.Sound.{helm, countsOf}
 
 -- the arrays, whole

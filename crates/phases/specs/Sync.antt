@@ -25,8 +25,8 @@ use Rattle.tx_list.specs.declared.State.the-variants.{AwaitStartup, ReadAt, Rea
 use Rattle.phases.specs.declared.IsDone.{IsDone}
 use Rattle.phases.specs.declared.Lacks.{Lacks}
 use Rattle.phases.specs.declared.Lacks.the-variants.{Nothing as SaysNothing, Whole, Partial, Refused}
-use Rattle.phases.specs.declared.write.Sent.{Sent}
-use Rattle.phases.specs.declared.write.Sent.the-variants.{Nothing, ReadF1, ReadF2, Enable, Commit, Activate}
+use Rattle.phases.specs.declared.Sent.{Sent}
+use Rattle.phases.specs.declared.Sent.the-variants.{Nothing, ReadF1, ReadF2, Enable, Commit, Activate}
 
 -- THE SESSION that numbers and arrays hold: what tx_list/specs/Memory reads a session from
 abbrev pub Sync : Type 0

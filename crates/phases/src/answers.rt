@@ -1,9 +1,9 @@
 // The answers to enable, commit and activate.
 use super::ANSWER_TIMEOUT_MS;
 use super::Numbers;
+use super::Sent;
+use super::Step;
 use super::Totals;
-use super::write::Sent;
-use super::write::Step;
 use super::write::stay;
 use replies::BEM_ACTIVATE_PGN_ENABLE_LISTS;
 use replies::BEM_COMMIT_TO_EEPROM;

@@ -39,6 +39,29 @@ pub struct Numbers {
     pub totals: Totals,
 }
 
+// The commands of one call.
+pub enum Sent {
+    Nothing,
+    ReadF1,
+    ReadF2,
+    Enable(u32),
+    Commit,
+    Activate,
+}
+
+// What a call does: the commands that it sends, and the session's numbers after it.
+pub struct Step {
+    pub sent: Sent,
+    pub numbers: Numbers,
+}
+
+// What a message does while Format 2 is read: the commands that it sends, the session's numbers and its parts after it.
+pub struct PartStep {
+    pub sent: Sent,
+    pub numbers: Numbers,
+    pub f2: F2List,
+}
+
 // What a message or a tick in lent memory answers: 0 or the refusal's number, how many bytes were written, and the numbers.
 pub struct Answered {
     pub number: u8,

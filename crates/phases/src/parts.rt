@@ -1,12 +1,13 @@
 // A message while Format 2 is read: a part of its lists, or an error, which leads to Format 1.
 use super::Numbers;
+use super::PartStep;
 use super::Parted;
+use super::Sent;
+use super::Step;
 use super::Totals;
 use super::answers::await_answer;
 use super::reading::got;
 use super::ticks::start_f1;
-use super::write::Sent;
-use super::write::Step;
 use super::write::told;
 use lists::F2List;
 use lists::F2Read;
@@ -23,13 +24,6 @@ ghost use Rattle.tx_list.specs.Views.{f2Of};
 ghost use Rattle.tx_list.specs.Moves.{puts, inF2, inWhole};
 ghost use Rattle.phases.specs.Sync.{kind, put, stepOf, wroteStep};
 ghost use Rattle.phases.specs.Lent.{Arrays, lent, partsOf, holding, syncOf, toldPart, toldParted, readsF2};
-
-// What a message does while Format 2 is read: the commands that it sends, the session's numbers and its parts after it.
-pub struct PartStep {
-    pub sent: Sent,
-    pub numbers: Numbers,
-    pub f2: F2List,
-}
 
 // The parts in hand; none where the numbers say so.
 pub fn in_hand(t: Totals, f2: F2List) -> F2List

@@ -1,11 +1,11 @@
 // A message while the list is read, and what follows once it is.
 use super::Numbers;
 use super::READ_DELAY_MS;
+use super::Sent;
+use super::Step;
 use super::Totals;
 use super::answers;
 use super::answers::await_answer;
-use super::write::Sent;
-use super::write::Step;
 use super::write::stay;
 use replies::BEM_ACTIVATE_PGN_ENABLE_LISTS;
 use replies::BEM_COMMIT_TO_EEPROM;

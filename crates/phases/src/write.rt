@@ -1,6 +1,8 @@
 // What a call sends, and how it is written into the lent output.
 use super::Answered;
 use super::Numbers;
+use super::Sent;
+use super::Step;
 use framing::Encoded;
 ghost use mathlib.Core.Path.{_≡_};
 ghost use Prim.Native.Nat.{_≤_};
@@ -9,22 +11,6 @@ ghost use Rattle.field.specs.Written.{written};
 ghost use Rattle.framing.specs.Encode.{countOf};
 ghost use Rattle.phases.specs.Sync.{bytesOf, wroteStep};
 ghost use Rattle.phases.specs.Lent.{Arrays, toldStep, toldAnswer};
-
-// The commands of one call.
-pub enum Sent {
-    Nothing,
-    ReadF1,
-    ReadF2,
-    Enable(u32),
-    Commit,
-    Activate,
-}
-
-// What a call does: the commands that it sends, and the session's numbers after it.
-pub struct Step {
-    pub sent: Sent,
-    pub numbers: Numbers,
-}
 
 pub(crate) fn refused(number: u8, x: Numbers) -> Answered
     ensures { λ r. ⌜ r ≡ record { number = number; count = 0; numbers = x } ⌝ }

@@ -3,7 +3,7 @@ use native.Mathlib.Omega.{arith}
 use mathlib.Core.Path.{ap, sym, _∙_}
 use borrow.Author.Needs.{needs}
 use Rattle.views.specs.ViewsLaws.{starts-at, starts-not}
-use Rattle.phases.specs.declared.write.Step.{Step}
+use Rattle.phases.specs.declared.Step.{Step}
 use Rattle.phases.specs.AnswersLaws.{activating-answer, activating-other}
 use Rattle.phases.specs.Sync.{stepOf}
 use Rattle.phases.specs.Lent.{lent, syncOf, toldStep}

@@ -9,7 +9,7 @@ use Rattle.lists.specs.Format2.{noParts}
 use Rattle.views.specs.ViewsLaws.{starts-at, starts-not}
 use Rattle.tx_list.specs.Moves.{goesOn}
 use Rattle.phases.specs.Sync.{Sync, kind, stepOf}
-use Rattle.phases.specs.declared.write.Step.{Step}
+use Rattle.phases.specs.declared.Step.{Step}
 use Rattle.phases.specs.AnswersLaws.{enabling-answer, enabling-other}
 use Rattle.phases.specs.Lent.{Arrays, lent, syncOf, toldStep}
 use Rattle.phases.proofs.answers.on_enable.Statement.{statement}

@@ -3,7 +3,7 @@ use mathlib.Core.Path.{ap, _∙_}
 use borrow.Author.Needs.{needs}
 use Rattle.views.specs.declared.F2Kind.the-variants.{Wrong, Part, Alien}
 use Rattle.tx_list.specs.Moves.{inF2}
-use Rattle.phases.specs.declared.parts.PartStep.{PartStep}
+use Rattle.phases.specs.declared.PartStep.{PartStep}
 use Rattle.phases.specs.Lent.{lent, syncOf, toldPart}
 use Rattle.phases.specs.ReadingLaws.{in-f2}
 use Rattle.phases.proofs.parts.on_f2.Statement.{statement}

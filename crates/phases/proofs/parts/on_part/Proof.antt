@@ -10,7 +10,7 @@ use Rattle.lists.specs.declared.F2List.{F2List}
 use Rattle.lists.specs.Format2.{formed, toldRead, listed}
 use Rattle.tx_list.specs.Moves.{puts}
 use Rattle.phases.specs.Sync.{Sync, kind, put, stepOf}
-use Rattle.phases.specs.declared.parts.PartStep.{PartStep}
+use Rattle.phases.specs.declared.PartStep.{PartStep}
 use Rattle.phases.specs.Lent.{lent, partsOf, syncOf, toldPart}
 use Rattle.phases.specs.ReadingLaws.{put-formed, part-whole, part-partial, part-refused}
 use Rattle.phases.proofs.parts.on_part.Statement.{statement}

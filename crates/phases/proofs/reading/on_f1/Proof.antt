@@ -3,7 +3,7 @@ use mathlib.Core.Path.{ap, _∙_}
 use borrow.Author.Needs.{needs}
 use Rattle.views.specs.declared.F1Kind.the-variants.{Adds, Ends, Neither}
 use Rattle.tx_list.specs.Moves.{inF1}
-use Rattle.phases.specs.declared.write.Step.{Step}
+use Rattle.phases.specs.declared.Step.{Step}
 use Rattle.phases.specs.Lent.{lent, syncOf, toldStep}
 use Rattle.phases.specs.ReadingLaws.{adds-fit, in-f1}
 use Rattle.phases.proofs.reading.on_f1.Statement.{statement}

@@ -2,7 +2,7 @@
 use mathlib.Core.Path.{ap, _∙_}
 use mathlib.Core.Bool.{true, false}
 use borrow.Author.Needs.{needs}
-use Rattle.phases.specs.declared.write.Step.{Step}
+use Rattle.phases.specs.declared.Step.{Step}
 use Rattle.phases.specs.Lent.{syncOf, toldStep}
 use Rattle.phases.specs.ReadingLaws.{mode-by}
 use Rattle.phases.proofs.reading.on_mode.Statement.{statement}

@@ -6,8 +6,8 @@ use Rattle.tx_list.specs.declared.State.{State}
 use Rattle.tx_list.specs.declared.State.the-variants.{AwaitStartup, Done}
 use Rattle.tx_list.specs.Moves.{late}
 use Rattle.phases.specs.declared.Numbers.{Numbers}
-use Rattle.phases.specs.declared.write.Step.{Step}
-use Rattle.phases.specs.declared.write.Sent.the-variants.{Nothing}
+use Rattle.phases.specs.declared.Step.{Step}
+use Rattle.phases.specs.declared.Sent.the-variants.{Nothing}
 use Rattle.phases.specs.Sync.{kind, Stepped, stepOf}
 use Rattle.phases.specs.Lent.{Arrays, syncOf, toldStep}
 use Rattle.phases.proofs.ticks.late_at.Statement.{statement}

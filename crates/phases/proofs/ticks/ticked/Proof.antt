@@ -3,7 +3,7 @@ use mathlib.Core.Path.{ap}
 use borrow.Author.Tests.{le-leb, lt-leb}
 use borrow.Author.Needs.{needs}
 use Rattle.tx_list.specs.Moves.{ticked}
-use Rattle.phases.specs.declared.write.Step.{Step}
+use Rattle.phases.specs.declared.Step.{Step}
 use Rattle.phases.specs.Lent.{toldStep}
 use Rattle.phases.proofs.ticks.ticked.Statement.{statement}
 use Rattle.phases.proofs.ticks.ticked.Tie as tie
