@@ -18,16 +18,22 @@ command -v cargo >/dev/null 2>&1 || fail "no cargo here, so no Rust to race"
 
 build() { cargo build --release --offline --locked --quiet --manifest-path bench/Cargo.toml --target-dir bench/target "$@"; }
 
-# The libraries are made where the session's is missing or older than a source. What they stand on is proved first, two crates at a time;
-# the session is proved alone, and the Rust is compiled beside it.
-lib=target/staticlib/libngt1_session.a
+# The libraries are made where one is missing or older than a source. What they stand on is proved two crates at a time; beside the
+# longest of them, `phases`, the Rust is compiled.
+libraries="ngt1 ngt1_session"
+old() {
+    [ ! -f "$1" ] || [ -n "$(find crates.txt crates/*/src crates/*/specs crates/*/proofs -newer "$1" -type f 2>/dev/null | head -n 1)" ]
+}
 mkdir -p target
-if [ ! -f target/staticlib/libngt1.a ] || [ ! -f "$lib" ] || [ -n "$(find crates.txt crates/*/src crates/*/specs crates/*/proofs -newer "$lib" -type f 2>/dev/null | head -n 1)" ]; then
-    below=$(sed -n 's/^ngt1_session: //p' crates.txt)
-    # shellcheck disable=SC2086
-    { rt check $below ngt1 && rt staticlib ngt1 && rt staticlib ngt1_session; } >target/bench.log 2>&1 &
+if old target/staticlib/libngt1.a || old target/staticlib/libngt1_session.a; then
+    below=$(for name in $libraries; do sed -n "s/^$name: //p" crates.txt; done)
+    rm -f target/log/phases.say
+    {
+        # shellcheck disable=SC2086
+        bash bench/prove.sh $below && for name in $libraries; do rt staticlib "$name" || exit; done
+    } >target/bench.log 2>&1 &
     port=$!
-    while kill -0 "$port" 2>/dev/null && [ ! -f target/rlib/views.rlib ]; do sleep 1; done
+    while kill -0 "$port" 2>/dev/null && [ ! -f target/log/phases.say ]; do sleep 1; done
     build --package oracle --lib || fail "the Rust does not build"
     wait "$port" || {
         tail -n 5 target/bench.log
