@@ -18,27 +18,16 @@ command -v cargo >/dev/null 2>&1 || fail "no cargo here, so no Rust to race"
 
 build() { cargo build --release --offline --locked --quiet --manifest-path bench/Cargo.toml --target-dir bench/target "$@"; }
 
-# The libraries are made where one is missing or older than a source. What they stand on is proved two crates at a time; beside the
-# longest of them, `phases`, the Rust is compiled.
-libraries="ngt1 ngt1_session"
-old() {
-    [ ! -f "$1" ] || [ -n "$(find crates.txt crates/*/src crates/*/specs crates/*/proofs -newer "$1" -type f 2>/dev/null | head -n 1)" ]
-}
+# The port is proved and compiled, and the Rust is compiled beside the longest of its proofs.
 mkdir -p target
-if old target/staticlib/libngt1.a || old target/staticlib/libngt1_session.a; then
-    below=$(for name in $libraries; do sed -n "s/^$name: //p" crates.txt; done)
-    rm -f target/log/phases.say
-    {
-        # shellcheck disable=SC2086
-        bash bench/prove.sh $below && for name in $libraries; do rt staticlib "$name" || exit; done
-    } >target/bench.log 2>&1 &
-    port=$!
-    while kill -0 "$port" 2>/dev/null && [ ! -f target/log/phases.say ]; do sleep 1; done
-    build --package oracle --lib || fail "the Rust does not build"
-    wait "$port" || {
-        tail -n 5 target/bench.log
-        fail "no static libraries"
-    }
-fi
+rm -f target/log/phases.say
+bash bindings/libraries.sh >target/bench.log 2>&1 &
+port=$!
+while kill -0 "$port" 2>/dev/null && [ ! -f target/log/phases.say ]; do sleep 1; done
+build --package oracle --lib || fail "the Rust does not build"
+wait "$port" || {
+    tail -n 5 target/bench.log
+    fail "no static libraries"
+}
 build || fail "the driver does not build"
 bench/target/release/bench

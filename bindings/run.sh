@@ -11,16 +11,11 @@ if [ "$(uname -m)" != x86_64 ]; then
     exit 0
 fi
 mkdir -p target
-for lib in $libs; do
-    if [ ! -f "$lib" ] || [ -n "$(find crates.txt crates/*/src crates/*/specs crates/*/proofs -newer "$lib" -type f 2>/dev/null | head -n 1)" ]; then
-        name=$(basename "$lib" .a)
-        rt staticlib "${name#lib}" >target/bindings.log 2>&1 || {
-            tail -n 5 target/bindings.log
-            echo "bindings: FAILED, no $name.a"
-            exit 1
-        }
-    fi
-done
+bash bindings/libraries.sh >target/bindings.log 2>&1 || {
+    tail -n 5 target/bindings.log
+    echo "bindings: FAILED, no static libraries"
+    exit 1
+}
 work=$(mktemp -d target/bindings.XXXXXX) || exit 1
 trap 'rm -rf "$work"' EXIT
 status=0
