@@ -4,7 +4,7 @@
 # (`rt check` goes level by level, and waits for the slowest of each). Exit status 1: something is not proved.
 set -u
 cd "$(dirname "${BASH_SOURCE[0]}")/.." || exit 1
-libraries=(ngt1 ngt1_session)
+libraries=(ngt1_session ngt1)
 
 current() {
     [ -f "target/staticlib/lib$1.a" ] &&
@@ -15,7 +15,7 @@ current() {
 declare -A needs=() begun=() proved=() crate=() verb=()
 while IFS=: read -r name rest; do needs[$name]=$rest; done < <(sed -e 's/#.*//' -e '/:/!d' crates.txt)
 
-# The crates to prove, each after what it depends on; `below NAME` are those of this repository that NAME depends on.
+# The crates to prove, each after what it depends on, those of the longest way first; `below NAME` are those of this repository that NAME depends on.
 order=()
 below() {
     local d
