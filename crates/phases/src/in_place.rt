@@ -1,5 +1,5 @@
 // The session in lent memory: the caller keeps its arrays, and a call changes in place what it changes and copies nothing.
-// Each function leaves what the same function of TxListSync would leave of the session that the numbers and the arrays hold.
+// Each function leaves what module 6 says of the session that the numbers and the arrays hold (`syncOf`, specs/Lent).
 // `message` is for every phase but the reading of Format 2, `part` for that one; the other answers 100 and does nothing.
 // `is_idle` and `ignores` say beforehand that a tick or a message would change nothing.
 use super::Answered;
