@@ -1,4 +1,4 @@
--- The session in the caller's memory, as numbers and arrays (Lent of the crate session). Assumes nothing.
+-- The session in the caller's memory, as numbers and arrays (phases/specs/Lent): what each export leaves there. Assumes nothing.
 use Prim.Native.Nat.{ℕ, _+_, _%_, _≤_}
 use mathlib.Core.Path.{_≡_}
 use mathlib.Core.Bool.{Bool, true, false, not, _&&_}
@@ -18,7 +18,7 @@ use Rattle.numbers.specs.Layout.{isSet, one, stateOf, phaseOf, attemptOf, count
 use Rattle.ngt1_session.specs.declared.Answer.{Answer}
 use Rattle.ngt1_session.specs.declared.PartAnswer.{PartAnswer}
 
--- THE LAYOUT of the 17 numbers
+-- THE LAYOUT of the 17 numbers (decision 69)
 abbrev pub numbersIn : List ℕ → Numbers
 numbersIn n =
     record {
@@ -60,7 +60,7 @@ numbersAs x =
 abbrev pub toldOn : Answer → List ℕ → Arrays → List ℕ → Told
 toldOn r n a out = record { number = r .number; count = r .count; sync = syncOf (numbersIn n) a; out = out }
 
--- a phase over 7: 16, and nothing changes; else what the session's own function gives
+-- a phase over 7 is none ("state not well formed"): 16, and nothing changes; else what the session's own function gives
 unfoldable pub answers : List ℕ → Arrays → List ℕ → (Sync → Told) → Told
 answers n a out go =
     pick (ltb 7 (getD n 0 0)) (record { number = 16; count = 0; sync = syncOf (numbersIn n) a; out = out }) (go (syncOf (numbersIn n) a))
@@ -80,7 +80,7 @@ hearsPart n a t m out =
     (λ s.
     pick (readsF2 (s .state)) (called s (message t m (length out)) out) (record { number = 100; count = 0; sync = s; out = out }))
 
--- a message starts with none of the bytes that are of interest in any phase
+-- a message starts with none of the bytes that are of interest in any phase (`mindsIn`)
 unfoldable pub unheeded : List ℕ → Bool
 unheeded m =
     not (eqb (getD m 0 0) 0x01)
@@ -88,19 +88,19 @@ unheeded m =
     && (not (eqb (getD m 0 0) 0x40)
     && (not (eqb (getD m 0 0) 0x47) && (not (eqb (getD m 0 0) 0x49) && (not (eqb (getD m 0 0) 0x4B) && not (eqb (getD m 0 0) 0x4F))))))
 
--- a message would be taken and change nothing, told by one look
+-- a message would be taken and change nothing, told by one look (decision 70)
 unfoldable pub ignoresOn : List ℕ → ℕ → List ℕ → ℕ → Bool
 ignoresOn n t m room =
     calm n && (leb t 18446744073709541615 && (leb (length m) 255 && (leb 32 room && not (mindsIn (stateOf (getD n 0 0) 0) m))))
 
--- begin, restart, setting firmware, abandoning
+-- begin, restart, setting firmware, abandoning: 16 for a phase over 7, else the session's own answer
 abbrev pub renewedOn : ℕ → List ℕ → Arrays → Begun
 renewedOn r n a = record { number = r; sync = syncOf (numbersIn n) a }
 
 unfoldable pub renews : List ℕ → Arrays → Begun → Begun
 renews n a b = pick (ltb 7 (getD n 0 0)) (record { number = 16; sync = syncOf (numbersIn n) a }) b
 
--- what is said of a PGN
+-- what is said of a PGN: "`lacks` says nothing, lacking from a whole list (Format 2), or lacking from a partial one", or 16
 abbrev pub lackNumber : Said → ℕ
 lackNumber (says silent) = 0
 lackNumber (says fromWhole) = 1
@@ -110,7 +110,7 @@ lackNumber (refused k) = k
 unfoldable pub asks : List ℕ → ℕ → ℕ
 asks n k = pick (ltb 7 (getD n 0 0)) 16 k
 
--- PGNs more of a Format 1 list: where they had room, the list, its count and the due time; else nothing
+-- "reply 49 with byte 1 equal to 1 adds PGNs": where they had room, the list, its count and the due time; else nothing
 abbrev pub addedOn : List ℕ → List ℕ → ℕ → List ℕ → Bool → List ℕ → List ℕ → Type 0
 addedOn n l t m true n′ l′ =
     (getD n 5 0 + groupCount m ≤ 1024)

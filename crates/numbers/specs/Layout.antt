@@ -60,7 +60,7 @@ countsIn n =
       refused = getD n 10 0;
     }
 
--- bounds that suit every phase but enabling: CalmLaws of the crate ngt1_session shows that such a session is well formed
+-- bounds that suit every phase but enabling ("before enabling (done aside) a record list passes 192"): CalmLaws of the crate ngt1_session shows that such a session is well formed
 unfoldable pub calm : List ℕ → Bool
 calm n =
     leb (getD n 0 0) 7
@@ -72,6 +72,6 @@ calm n =
     && (leb (getD n 6 0) 512
     && (leb (getD n 7 0) 1344 && (leb (getD n 8 0) 192 && (leb (getD n 9 0) 192 && leb (getD n 10 0) 192)))))))))
 
--- a tick does something
+-- "A tick at or after a due time acts": in every phase but the first and the last
 abbrev pub dueIn : ℕ → ℕ → ℕ → Bool
 dueIn p deadline t = leb deadline t && (not (eqb p 0) && ltb p 7)

@@ -12,16 +12,16 @@ use Rattle.field.specs.Pick.{pick}
 use Rattle.lists.specs.declared.F2List.{F2List}
 use Rattle.tx_list.specs.declared.State.{State}
 use Rattle.tx_list.specs.declared.State.the-variants.{AwaitStartup, ReadAt, ReadingF2, Reading as ReadingF1, Enabling, Committing, Activating, Done}
-use Rattle.tx_list.specs.Reading.{Call, message, tick, firmware, Verdict, taken, refuse, unless, vetMessage, vetTick}
+use Rattle.tx_list.specs.Reading.{message, tick, Verdict, taken, refuse, unless, vetMessage, vetTick}
 use Rattle.tx_list.specs.Session.{Record, isDone, allLe, oldBounds, begins, lacks}
 use Rattle.tx_list.specs.Stored as stored
-use Rattle.tx_list.specs.Stored.{Answer, new, again, opens}
+use Rattle.tx_list.specs.Stored.{Answer}
 use Rattle.tx_list.specs.Memory.{Flat, Sized, phaseIn, absFlat, writeFlat}
-use Rattle.tx_list.specs.Moves.{Moved, soundIn, fullIn, oldIn, heard, ticked, withFirmware, givesUp, startsOver, judgeMessage, judgeTick, judgeState, judgeRestart, told}
+use Rattle.tx_list.specs.Moves.{Moved, soundIn, heard, ticked, withFirmware, givesUp, startsOver, judgeMessage, judgeTick, judgeState, judgeRestart, told}
 use Rattle.field.specs.Tests.{left-true, right-true, and-true, and-assoc}
 use Rattle.tx_list.proofs.MovesSound.{sound-is}
 use Rattle.tx_list.proofs.MovesLaws.{message-law, tick-law, firmware-law, restart-law, abandon-law, begin-law}
-use Rattle.phases.specs.Sync.{Sync, Begun, kind, same, Learned, store, clear, frameOf, Told, gave, called, begun, setTo, restarted, abandoned, begunWith, recordOf, sound, recordFits, doneIn, doneOf, Said, says, refused, lackOf, stepOf, wroteStep}
+use Rattle.phases.specs.Sync.{Sync, Begun, kind, same, Learned, store, clear, frameOf, Told, gave, called, begun, setTo, restarted, abandoned, begunWith, recordOf, sound, recordFits, doneIn, doneOf, says, refused, lackOf, stepOf, wroteStep}
 use Rattle.phases.specs.declared.IsDone.{IsDone}
 
 -- a refusal, and a step taken

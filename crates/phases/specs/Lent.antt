@@ -63,7 +63,7 @@ pub record Fits (a : Arrays) : Type 0 where
   pub present-256 : length (a .present) ≡ 256
   pub refused-256 : length (a .refused) ≡ 256
 
--- the parts of Format 2: none where the numbers say so; the count of proprietary PGNs stands among the numbers
+-- the parts of Format 2: none where the numbers say so; the count of proprietary PGNs stands among the numbers (decision 65)
 abbrev pub counted : ℕ → F2List → F2List
 counted n f =
     record {
@@ -75,7 +75,7 @@ counted n f =
 abbrev pub partsOf : Totals → F2List → F2List
 partsOf t f = pick (t .blank) noParts (counted (t .counts .proprietary) f)
 
--- THE SESSION that the numbers and the arrays hold
+-- THE SESSION that the numbers and the arrays hold ("a phase enum of numbers, with arrays and counts beside it")
 abbrev pub syncOf : Numbers → Arrays → Sync
 syncOf x a =
     record {
@@ -142,7 +142,7 @@ retotal t c deadline read complete blank =
 abbrev pub counting : Totals → Counts → Totals
 counting t c = retotal t c (t .deadline) (t .read) (t .complete) (t .blank)
 
--- a list of so many PGNs is known
+-- a list of so many PGNs is known ("known = list plus absent present PGNs"), whole in Format 2
 abbrev pub knownTotals : Totals → Bool → ℕ → Totals
 knownTotals t whole n =
     let c = t .counts in
@@ -154,11 +154,11 @@ holding t f =
     let c = t .counts in
     retotal t (recount c (c .owed) (c .fresh) (c .list) (f .proprietary .list .n) (c .known)) (t .deadline) (t .read) (t .complete) false
 
--- another phase, with an answer awaited from a time on
+-- another phase, with an answer awaited from a time on ("Each command waits 10,000 ms, and each answer taken starts that wait anew")
 abbrev pub awaiting : Totals → State → ℕ → Numbers
 awaiting t st time = record { state = st; totals = retotal t (t .counts) (time + 10000) (t .read) (t .complete) (t .blank) }
 
--- 16, by the numbers alone: where no part is in hand no proprietary PGN is
+-- 16 ("State is not well formed when: .."), by the numbers alone: where no part is in hand no proprietary PGN is
 abbrev pub uncounted : Counts → Counts
 uncounted c = recount c (c .owed) (c .fresh) (c .list) 0 (c .known)
 
@@ -185,7 +185,7 @@ toldParted r a out = record { number = r .number; count = r .count; sync = syncO
 abbrev pub toldRenewed : Renewed → Arrays → Begun
 toldRenewed r a = record { number = r .number; sync = syncOf (r .numbers) a }
 
--- a tick at that time does something
+-- "A tick at or after a due time acts", in every phase that waits
 abbrev pub waitsIn : State → Bool
 waitsIn AwaitStartup = false
 waitsIn ReadAt = true
@@ -199,7 +199,8 @@ waitsIn Done = false
 unfoldable pub dueAt : Numbers → ℕ → Bool
 dueAt x t = leb (x .totals .deadline) t && waitsIn (x .state)
 
--- a message is of interest in the phase: no other one changes anything (proofs/LentCalls)
+-- a message is of interest in the phase: "a parsed reply 11 with a mode", in Format 2 a "parsed reply 40 or 4F", in Format 1 "reply 49",
+-- then 47, and commit and activate "each answered by first byte alone"; no other one changes anything (proofs/LentCalls)
 unfoldable pub mindsIn : State → List ℕ → Bool
 mindsIn AwaitStartup m = isMode m
 mindsIn ReadAt m = false
@@ -210,7 +211,7 @@ mindsIn Committing m = starts 0x01 m
 mindsIn Activating m = starts 0x4B m
 mindsIn Done m = false
 
--- a tick, a message is taken and does nothing
+-- a tick, a message is taken ("Session message 16, 13, 6, 7, 14; tick 16, 13, 7") and does nothing
 unfoldable pub idleAt : Numbers → ℕ → ℕ → Bool
 idleAt x t room = soundFor x && (leb t 18446744073709541615 && (leb 32 room && not (dueAt x t)))
 
@@ -218,7 +219,7 @@ unfoldable pub ignoredAt : Numbers → ℕ → List ℕ → ℕ → Bool
 ignoredAt x t m room =
     soundFor x && (leb t 18446744073709541615 && (leb (length m) 255 && (leb 32 room && not (mindsIn (x .state) m))))
 
--- a call that was refused: nothing is written and nothing changes
+-- a call that was refused ("6 to 16 return the number alone and change no state or lent byte")
 abbrev pub refusedWith : ℕ → Numbers → Arrays → List ℕ → Told
 refusedWith n x a out = record { number = n; count = 0; sync = syncOf x a; out = out }
 
@@ -230,7 +231,7 @@ pub record Admitted (x : Numbers) (t : ℕ) (m : List ℕ) (room : ℕ) : Type 0
   pub roomy : 32 ≤ room
   pub unfilled : (a : Arrays) → fullIn kind (x .state) (syncOf x a) m ≡ false
 
--- a message while Format 2 is read is for `part`, any other for `message`: the other one answers 100 and does nothing
+-- a message while Format 2 is read is for `part`, any other for `message`: the other one answers 100 and does nothing (decision 66)
 abbrev pub readsF2 : State → Bool
 readsF2 AwaitStartup = false
 readsF2 ReadAt = false
@@ -244,7 +245,7 @@ readsF2 Done = false
 abbrev pub notHere : Numbers → Arrays → List ℕ → Told
 notHere x a out = refusedWith 100 x a out
 
--- begin: the record's lists stay where they stand; every other count is 0
+-- begin ("A new session waits for a parsed reply 11 with a mode"): the record's lists stay where they stand; every other count is 0
 abbrev pub openedWith : Counts → ℕ → Numbers
 openedWith c n =
     record {
@@ -277,7 +278,7 @@ abbrev pub wanting : Arrays → List ℕ → Arrays
 wanting a want =
     lent (sets (a .wanted) 0 want) (a .owed) (a .fresh) (a .list) (a .known) (a .saved) (a .present) (a .refused) (a .f2)
 
--- refused with 11, then 12, and nothing changes; else the session that LentBegin shows to be begin's
+-- "Begin 11, 12": refused, and nothing changes; else the session that LentBegin shows to be begin's
 unfoldable pub begunIn : Numbers → List ℕ → Arrays → Begun
 begunIn x want a =
     pick (ltb 64 (length want)) (record { number = 11; sync = syncOf x a })

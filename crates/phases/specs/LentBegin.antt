@@ -1,13 +1,11 @@
 -- Begin in lent memory: the session held is the one that module 6 begins with. Assumes nothing.
 use Prim.Native.Nat.{ℕ, _≤_}
-use native.Mathlib.Omega.{arith}
-use mathlib.Core.Path.{_≡_, ap, sym, _∙_}
+use mathlib.Core.Path.{_≡_}
 use mathlib.Core.List.{List}
 use lib.ListN.{length, take}
 use lib.Seq.{sets}
-use Rattle.tx_list.specs.Session.{Session, Record, begins, unknown}
-use Rattle.tx_list.specs.Memory.{absFlat, live}
-use Rattle.lists.specs.declared.F2List.{F2List}
+use Rattle.tx_list.specs.Session.{begins, unknown}
+use Rattle.tx_list.specs.Memory.{absFlat}
 use Rattle.phases.specs.declared.Numbers.{Numbers}
 use Rattle.phases.specs.Sync.{kind, learnedIn, recordOf}
 use Rattle.phases.specs.Lent.{Arrays, syncOf, openedWith, wanting}

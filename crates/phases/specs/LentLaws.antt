@@ -1,8 +1,6 @@
 -- Laws of a session in lent memory. Assumes nothing.
-use Prim.Native.Nat.{ℕ}
-use mathlib.Core.Path.{_≡_, refl, sym, ap, _∙_}
+use mathlib.Core.Path.{_≡_, refl, ap, _∙_}
 use mathlib.Core.Bool.{Bool, true, false}
-use mathlib.Core.List.{List}
 use Rattle.bounds.specs.declared.Counts.{Counts}
 use Rattle.bounds.specs.Bounds.{soundAt}
 use Rattle.field.specs.Pick.{pick}

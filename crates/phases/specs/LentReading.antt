@@ -2,22 +2,21 @@
 use Prim.Native.Nat.{ℕ, _+_, _≤_, _<_}
 use native.Mathlib.Omega.{arith}
 use mathlib.Core.Path.{_≡_, refl, sym, ap, _∙_}
-use mathlib.Core.Bool.{Bool, true, false}
+use mathlib.Core.Bool.{Bool, true}
 use mathlib.Core.List.{List, [], _∷_}
 use lib.ListN.{length, take, getD}
 use lib.Seq.{sets, length-sets, length-take-le}
 use Rattle.pgns.specs.Lists.{told, noted, owedOf, owedIn}
 use Rattle.lists.specs.declared.F2List.{F2List}
-use Rattle.tx_list.specs.Views.{groupCount, pgnsAt, listPgns, notes}
+use Rattle.tx_list.specs.Views.{groupCount, pgnsAt, listPgns}
 use Rattle.tx_list.specs.Reading.{enable}
-use Rattle.tx_list.specs.Memory.{Buf, fill}
+use Rattle.tx_list.specs.Memory.{Buf}
 use Rattle.tx_list.specs.Moves.{addsTo, owing, asks, gets}
-use Rattle.tx_list.specs.declared.State.{State}
 use Rattle.tx_list.specs.declared.State.the-variants.{Enabling, Done}
 use Rattle.phases.specs.Sync.{Sync, kind, Known, knownIn, Stepped, stepOf}
 use Rattle.phases.specs.declared.Totals.{Totals}
 use Rattle.phases.specs.declared.Numbers.{Numbers}
-use Rattle.phases.specs.Lent.{Arrays, lent, syncOf, recount, counting, knownTotals, awaiting}
+use Rattle.phases.specs.Lent.{lent, syncOf, recount, counting, knownTotals, awaiting}
 use Rattle.phases.specs.ReadingLaws as laws
 use Rattle.phases.specs.ReadingLaws.{adds-told, list-none, none-written, list-some, noted-told, knownAs, front-read}
 

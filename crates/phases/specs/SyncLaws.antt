@@ -1,13 +1,10 @@
 -- Laws of a session in arrays and counts: the test for 16 on its counts, and that what `lacks` says loses nothing. Assumes nothing.
-use Prim.Native.Nat.{ℕ, _+_}
 use mathlib.Core.Path.{_≡_, refl, sym, ap, ap₂, _∙_}
-use mathlib.Core.Bool.{Bool, true, false, _&&_}
-use lib.Dec.{leb}
+use mathlib.Core.Bool.{Bool, true, _&&_}
 use Rattle.field.specs.Tests.{and-true, and-assoc}
-use Rattle.lists.specs.declared.F2List.{F2List}
 use Rattle.lists.specs.Format2.{formed}
 use Rattle.tx_list.specs.Session.{allLe, knownMax, silent, fromWhole, fromPart}
-use Rattle.tx_list.specs.Memory.{Flat, counts}
+use Rattle.tx_list.specs.Memory.{counts}
 use Rattle.tx_list.specs.Moves.{formatIn, owesIn, sumsIn, soundIn}
 use Rattle.tx_list.specs.declared.State.{State}
 use Rattle.tx_list.specs.declared.State.the-variants.{AwaitStartup, ReadAt, ReadingF2, Reading as ReadingF1, Enabling, Committing, Activating, Done}

@@ -5,13 +5,11 @@ use native.Mathlib.Omega.{arith}
 use mathlib.Core.Path.{_≡_, refl, sym, ap, _∙_, subst}
 use mathlib.Core.Bool.{Bool, true, false, not, _&&_}
 use mathlib.Core.List.{List, [], _∷_, _++_, append-nil, append-assoc}
-use mathlib.Core.Option.{some}
 use mathlib.Core.Logic.{inl}
 use lib.Dec.{ltb}
 use borrow.Author.Tests.{le-ltb}
 use lib.ListN.{length, take, drop}
 use lib.Seq.{sets, length-sets, take-append-seam, drop-append-seam}
-use Rattle.field.specs.Pick.{pick}
 use Rattle.field.specs.Written.{written}
 use Rattle.framing.specs.declared.Phase.the-variants.{Idle}
 use Rattle.framing.specs.Frame.{frame, body}
@@ -21,23 +19,20 @@ use Rattle.framing.specs.Feed.{Feed, fed}
 use Rattle.framing.specs.Stuffing.{Ready}
 use Rattle.framing.specs.Delivery.{delivered}
 use Rattle.framing.specs.Agreement.{ended, fed-delivered}
-use Rattle.replies.specs.Bem.{dataOf}
 use Rattle.lists.specs.declared.F2List.{F2List}
-use Rattle.lists.specs.Format2.{noParts, addSupported, addEnabled, pgnsOf, formed}
-use Rattle.lists.specs.Format2Laws.{formed-none, formed-supported, formed-enabled, pgns-767}
-use Rattle.tx_list.specs.Views.{starts}
+use Rattle.lists.specs.Format2.{noParts, formed}
+use Rattle.lists.specs.Format2Laws.{formed-none, pgns-767}
 use Rattle.tx_list.specs.Reading.{Command, read1, read40, read4F, enable, commit, activate, Call, message, tick, firmware, taken, unless}
 use Rattle.field.specs.Fields.{bytesOf}
 use Rattle.tx_list.specs.Session.{Record, Session, allLe, oldBounds, begin, beginBy, restart, step, gate, soundly, onFirmware, wellFormed}
 use Rattle.tx_list.specs.Stored as stored
 use Rattle.tx_list.specs.Stored.{Answer, answer, Ran′, runs, wire, then, new, again, opens, Faithful, Demand3-kept, wanted′, old′, Shown}
-use Rattle.tx_list.specs.Memory.{Sized}
 use Rattle.tx_list.proofs.Demand3.{Lawful}
 use Rattle.tx_list.proofs.Lists.{allLe-true}
 use Rattle.tx_list.proofs.Kept.{demand3-kept}
 use Rattle.tx_list.proofs.MovesSound.{sound-is, sound-counts, wanted-fits}
 use Rattle.tx_list.proofs.MemoryFaithful.{store-faithful, clear-sized, clear-counted}
-use Rattle.phases.specs.Sync.{Sync, Begun, kind, store, clear, put, frameOf, payloadOf, Told, gave, called, begun, setTo, restarted, begunWith, same}
+use Rattle.phases.specs.Sync.{Sync, Begun, kind, store, clear, frameOf, payloadOf, Told, gave, called, begun, restarted, begunWith, same}
 use Rattle.phases.specs.ReadingLaws.{put-formed}
 use Rattle.session.specs.Played.{Played, none, message′, tick′, firmware′, Reads, Holds, Demand3, Taken}
 

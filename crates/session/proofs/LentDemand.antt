@@ -10,7 +10,7 @@ use lib.ListN.{length, take}
 use lib.Seq.{sets, length-sets}
 use borrow.Author.Tests.{le-leb, ltb-false}
 use Rattle.field.specs.Pick.{pick}
-use Rattle.tx_list.specs.Reading.{Call, taken}
+use Rattle.tx_list.specs.Reading.{taken}
 use Rattle.tx_list.specs.Memory.{Sized}
 use Rattle.tx_list.specs.Moves.{soundIn}
 use Rattle.tx_list.specs.Live.{Helpful, Mixed, startUp}

@@ -1,6 +1,5 @@
 -- With a helpful gateway the start-up of the session's functions ends well. Assumes nothing.
 use Prim.Native.Nat.{ℕ}
-use native.Mathlib.Omega.{arith}
 use mathlib.Core.Path.{_≡_, refl, sym, ap, _∙_, subst}
 use mathlib.Core.Bool.{Bool, true, false, not, _&&_}
 use mathlib.Core.List.{List, [], _∷_, map}
@@ -10,12 +9,12 @@ use Rattle.tx_list.specs.Views.{has}
 use Rattle.tx_list.specs.Reading.{Call, firmware, unless, taken}
 use Rattle.tx_list.specs.Session.{Record, Session, isDone, silent, lacks, gate, soundly, step, onFirmware, wellFormed}
 use Rattle.tx_list.specs.Stored as stored
-use Rattle.tx_list.specs.Stored.{Answer, answer, Ran′, runs, new, again, opens, wanted′, old′, Opening′, Real}
+use Rattle.tx_list.specs.Stored.{answer, Ran′, runs, new, again, opens, wanted′, old′}
 use Rattle.tx_list.specs.Memory.{absFlat}
-use Rattle.tx_list.specs.Live.{Gateway, Helpful, Mixed, startUp, Started}
+use Rattle.tx_list.specs.Live.{Gateway, Mixed, startUp}
 use Rattle.tx_list.specs.LiveKept.{Up, Live-kept}
 use Rattle.tx_list.proofs.LiveKept.{live-kept}
-use Rattle.phases.specs.Sync.{Sync, Begun, kind, store, begun, restarted, begunWith, sound, doneOf, Said, says, refused, lackOf, same}
+use Rattle.phases.specs.Sync.{Sync, Begun, kind, store, begun, restarted, begunWith, sound, doneOf, says, refused, lackOf}
 use Rattle.phases.specs.declared.IsDone.{IsDone}
 use Rattle.session.specs.Played.{Played, Reads, Holds, heldBy}
 use Rattle.session.specs.StartUp.{StartedUp, StartUp}

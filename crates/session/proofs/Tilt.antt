@@ -13,12 +13,12 @@ use Rattle.lists.specs.Parts.{partAdded, resized, entriesRead, entriesFrom, who
 use Rattle.lists.specs.Matches.{matched, firstMatch}
 use Rattle.lists.specs.Maps.{mapPgns, bitsFrom}
 use Rattle.lists.specs.Format2.{addSupported, addEnabled, enabledAdded, proprietaryAdded, allWhole, wholeList, pgnsOf}
-use Rattle.tx_list.specs.Views.{has, only, starts, sequence, parsed, isZero, isAlready, noError, isFound, isMode, pgnsAt, least, groupCount, listPgns, f1By, f1Of, added, f2By, f2Of, answerBy, isAnswer, answerOf, isGood, ackBy, ackOf, isFresh}
+use Rattle.tx_list.specs.Views.{has, only, starts, sequence, parsed, isZero, isAlready, noError, isFound, isMode, pgnsAt, least, groupCount, listPgns, f1By, f1Of, added, f2By, f2Of, answerBy, isAnswer, answerOf, isGood, ackBy, ackOf}
 use Rattle.tx_list.specs.Reading.{Kind, Call, isNew}
 use Rattle.tx_list.specs.Session.{Record, Ran, owed, settle, step, begin, beginBy}
 use Rattle.tx_list.specs.Stored.{answer, opens}
 use Rattle.tx_list.specs.Live.{Said, isPage, Gateway, startUp, Helpful, Mixed, end, next}
-use Rattle.phases.specs.Sync.{Sync, Begun, kind, put, begunWith}
+use Rattle.phases.specs.Sync.{Sync, kind, put, begunWith}
 use Rattle.session.specs.Played.{Played, heldBy}
 use Rattle.session.specs.StartUp.{StartedUp}
 use Rattle.session.proofs.StartUp.{start-up}

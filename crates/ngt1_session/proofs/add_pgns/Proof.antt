@@ -2,10 +2,10 @@
 use Prim.Native.Nat.{_+_, _≤_}
 use native.Mathlib.Omega.{arith}
 use mathlib.Core.Path.{_≡_, _∙_}
+use borrow.Author.Needs.{needs}
 use lib.ListN.{length, getD, set}
 use lib.Seq.{sets}
 use Rattle.tx_list.specs.Views.{groupCount, pgnsAt}
-use borrow.Author.Needs.{needs}
 use Rattle.ngt1_session.proofs.add_pgns.Statement.{statement}
 use Rattle.ngt1_session.proofs.add_pgns.Tie as tie
 

@@ -1,10 +1,10 @@
 -- `ngt1_session::minds` meets its contract. Assumes nothing.
 use mathlib.Core.Path.{sym, _∙_}
 use borrow.Author.Tests.{ne-eqb}
+use borrow.Author.Needs.{needs}
 use Rattle.numbers.specs.Layout.{stateOf}
 use Rattle.ngt1_session.specs.MindLaws.{unheeded-none}
 use Rattle.phases.specs.Lent.{mindsIn}
-use borrow.Author.Needs.{needs}
 use Rattle.ngt1_session.proofs.minds.Statement.{statement}
 use Rattle.ngt1_session.proofs.minds.Tie as tie
 

@@ -2,13 +2,13 @@
 use mathlib.Core.Path.{_≡_, sym, ap, _∙_}
 use mathlib.Core.Bool.{true}
 use borrow.Author.Tests.{not-false}
+use borrow.Author.Needs.{needs}
 use Rattle.views.specs.declared.F1Kind.{F1Kind}
 use Rattle.views.specs.Told.{toldF1}
 use Rattle.tx_list.specs.Views.{listPgns}
 use Rattle.numbers.specs.Layout.{calm}
 use Rattle.ngt1_session.specs.AddLaws.{adds-by}
 use Rattle.numbers.specs.LayoutLaws.{calm-list}
-use borrow.Author.Needs.{needs}
 use Rattle.ngt1_session.proofs.ngt1_session_add.Statement.{statement}
 use Rattle.ngt1_session.proofs.ngt1_session_add.Tie as tie
 

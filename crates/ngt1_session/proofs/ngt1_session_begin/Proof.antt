@@ -1,12 +1,11 @@
 -- `ngt1_session::ngt1_session_begin` meets its contract. Assumes nothing.
-use Prim.Native.Nat.{ℕ, _≤_, _<_}
-use mathlib.Core.Path.{_≡_, sym, ap, _∙_}
-use lib.ListN.{length, getD}
+use Prim.Native.Nat.{ℕ}
+use mathlib.Core.Path.{ap, _∙_}
+use borrow.Author.Needs.{needs}
 use Rattle.phases.specs.declared.Numbers.{Numbers}
 use Rattle.phases.specs.Sync.{Begun}
 use Rattle.phases.specs.Lent.{lent, syncOf, begunIn}
 use Rattle.ngt1_session.specs.SessionLaws.{none-renews, did-renew}
-use borrow.Author.Needs.{needs}
 use Rattle.ngt1_session.proofs.ngt1_session_begin.Statement.{statement}
 use Rattle.ngt1_session.proofs.ngt1_session_begin.Tie as tie
 

@@ -1,10 +1,9 @@
 -- `ngt1_session::ngt1_session_ignores` meets its contract. Assumes nothing.
-use mathlib.Core.Path.{_≡_, sym, ap, _∙_}
-use mathlib.Core.Bool.{Bool, true, false, not}
+use mathlib.Core.Path.{sym, ap, _∙_}
+use mathlib.Core.Bool.{not}
 use borrow.Author.Tests.{not-true, not-false, le-leb, lt-leb}
-use Rattle.numbers.specs.Layout.{calm}
-use Rattle.ngt1_session.specs.Session.{ignoresOn}
 use borrow.Author.Needs.{needs}
+use Rattle.ngt1_session.specs.Session.{ignoresOn}
 use Rattle.ngt1_session.proofs.ngt1_session_ignores.Statement.{statement}
 use Rattle.ngt1_session.proofs.ngt1_session_ignores.Tie as tie
 

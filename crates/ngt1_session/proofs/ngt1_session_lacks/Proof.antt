@@ -1,13 +1,11 @@
 -- `ngt1_session::ngt1_session_lacks` meets its contract. Assumes nothing.
-use Prim.Native.Nat.{_≤_, _<_}
-use mathlib.Core.Path.{_≡_, sym, ap, _∙_}
-use lib.ListN.{length, getD}
+use mathlib.Core.Path.{ap, _∙_}
+use borrow.Author.Needs.{needs}
 use Rattle.phases.specs.declared.Numbers.{Numbers}
-use Rattle.phases.specs.Sync.{Said, lackOf}
+use Rattle.phases.specs.Sync.{lackOf}
 use Rattle.phases.specs.Lent.{lent, syncOf}
 use Rattle.ngt1_session.specs.Session.{lackNumber}
 use Rattle.ngt1_session.specs.SessionLaws.{none-asks, did-ask}
-use borrow.Author.Needs.{needs}
 use Rattle.ngt1_session.proofs.ngt1_session_lacks.Statement.{statement}
 use Rattle.ngt1_session.proofs.ngt1_session_lacks.Tie as tie
 

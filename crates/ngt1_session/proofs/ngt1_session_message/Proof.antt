@@ -1,14 +1,12 @@
 -- `ngt1_session::ngt1_session_message` meets its contract. Assumes nothing.
-use Prim.Native.Nat.{_≤_, _<_}
-use mathlib.Core.Path.{_≡_, sym, ap, _∙_}
-use lib.ListN.{length, getD}
+use borrow.Author.Needs.{needs}
+use lib.ListN.{length}
 use Rattle.lists.specs.declared.F2List.{F2List}
 use Rattle.field.specs.Pick.{pick}
 use Rattle.tx_list.specs.Reading as model
 use Rattle.phases.specs.Sync.{Sync, Told, called}
 use Rattle.phases.specs.Lent.{Arrays, lent, readsF2}
 use Rattle.ngt1_session.specs.SessionLaws.{none-answers, did-answer}
-use borrow.Author.Needs.{needs}
 use Rattle.ngt1_session.proofs.ngt1_session_message.Statement.{statement}
 use Rattle.ngt1_session.proofs.ngt1_session_message.Tie as tie
 

@@ -1,15 +1,13 @@
 -- `ngt1_session::ngt1_session_part` meets its contract. Assumes nothing.
-use Prim.Native.Nat.{_≤_, _<_}
-use mathlib.Core.Path.{_≡_, sym, ap, _∙_}
-use lib.ListN.{length, getD}
 use Prim.Native.Nat.{ℕ}
 use mathlib.Core.List.{List}
+use borrow.Author.Needs.{needs}
+use lib.ListN.{length}
 use Rattle.field.specs.Pick.{pick}
 use Rattle.tx_list.specs.Reading as model
 use Rattle.phases.specs.Sync.{Sync, Told, called}
 use Rattle.phases.specs.Lent.{Arrays, lent, readsF2}
 use Rattle.ngt1_session.specs.SessionLaws.{none-answers, did-answer}
-use borrow.Author.Needs.{needs}
 use Rattle.ngt1_session.proofs.ngt1_session_part.Statement.{statement}
 use Rattle.ngt1_session.proofs.ngt1_session_part.Tie as tie
 

@@ -1,11 +1,11 @@
 -- `ngt1_session::ngt1_session_tick` meets its contract. Assumes nothing.
 use mathlib.Core.Path.{_≡_, sym, ap, _∙_}
-use mathlib.Core.Bool.{Bool, true, false, _&&_}
+use mathlib.Core.Bool.{Bool, true, _&&_}
+use borrow.Author.Needs.{needs}
 use lib.Dec.{leb}
 use lib.ListN.{length}
 use Rattle.numbers.specs.Layout.{calm}
 use Rattle.ngt1_session.specs.CalmLaws.{idle-answers}
-use borrow.Author.Needs.{needs}
 use Rattle.ngt1_session.proofs.ngt1_session_tick.Statement.{statement}
 use Rattle.ngt1_session.proofs.ngt1_session_tick.Tie as tie
 

@@ -2,10 +2,10 @@
 use Prim.Native.Nat.{_<_}
 use native.Mathlib.Omega.{arith}
 use mathlib.Core.Path.{_≡_}
+use borrow.Author.Needs.{needs}
 use lib.ListN.{length}
 use Rattle.numbers.specs.Layout.{attemptOf}
 use Rattle.ngt1_session.specs.SessionLaws.{stored}
-use borrow.Author.Needs.{needs}
 use Rattle.ngt1_session.proofs.store.Statement.{statement}
 use Rattle.ngt1_session.proofs.store.Tie as tie
 

@@ -1,11 +1,9 @@
 -- `ngt1_session::tick_on` meets its contract. Assumes nothing.
-use Prim.Native.Nat.{_≤_, _<_}
-use mathlib.Core.Path.{_≡_, sym, ap, _∙_}
-use lib.ListN.{length, getD}
+use borrow.Author.Needs.{needs}
+use lib.ListN.{length}
 use Rattle.tx_list.specs.Reading as model
 use Rattle.phases.specs.Sync.{Sync, called}
 use Rattle.ngt1_session.specs.SessionLaws.{none-answers, did-answer}
-use borrow.Author.Needs.{needs}
 use Rattle.ngt1_session.proofs.tick_on.Statement.{statement}
 use Rattle.ngt1_session.proofs.tick_on.Tie as tie
 

@@ -1,7 +1,7 @@
 -- `numbers::is_calm` meets its contract. Assumes nothing.
 use mathlib.Core.Path.{refl}
-use Rattle.numbers.specs.Layout.{calm}
 use borrow.Author.Needs.{needs}
+use Rattle.numbers.specs.Layout.{calm}
 use Rattle.numbers.proofs.is_calm.Statement.{statement}
 use Rattle.numbers.proofs.is_calm.Tie as tie
 

@@ -1,6 +1,5 @@
 -- `numbers::state_of` meets its contract. Assumes nothing.
 use borrow.Author.Tests.{ne-eqb}
-use borrow.Author.Needs.{needs}
 use Rattle.numbers.proofs.state_of.Statement.{statement}
 use Rattle.numbers.proofs.state_of.Tie as tie
 
