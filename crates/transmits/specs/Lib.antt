@@ -1,0 +1,3 @@
+-- Whether the gateway will transmit a PGN.
+pub mod Transmits
+pub mod TransmitsLaws
