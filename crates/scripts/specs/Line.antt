@@ -33,7 +33,7 @@ inLine b = not (eqb b 10)
 -- how many bytes at the front pass the test
 unfoldable pub lead : (ℕ → Bool) → List ℕ → ℕ
 lead test [] = 0
-lead test (b ∷ s) = pick (test b) (1 + lead test s) 0
+lead test (b ∷ s) = pick (test b) (suc (lead test s)) 0
 
 -- from the first byte on that is no blank
 abbrev pub afterBlanks : List ℕ → List ℕ

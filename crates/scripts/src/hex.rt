@@ -59,7 +59,7 @@ pub(crate) fn put_hex(s: &[u8], out: &mut [u8])
         if is_blank(s[i]) {
             i += 1;
         } else {
-            out[n] = hex_of(s[i]) * 16 + hex_of(s[i + 1]);
+            out[n] = 16 * hex_of(s[i]) + hex_of(s[i + 1]);
             n += 1;
             i += 2;
         }
