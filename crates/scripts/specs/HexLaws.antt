@@ -6,12 +6,14 @@ use mathlib.Core.Path.{_≡_, refl, sym, ap, ap₂, _∙_}
 use mathlib.Core.Bool.{Bool, true, false, _&&_, and-false}
 use mathlib.Core.List.{List, [], _∷_}
 use mathlib.Core.Option.{Option, none, some}
-use borrow.Author.Tests.{lt-ltb, le-ltb, leb-true, ltb-true}
+use borrow.Author.Tests.{lt-ltb, le-ltb, leb-true, ltb-true, ltb-false}
 use lib.Dec.{leb, ltb}
 use lib.ListN.{length, getD, set, drop, drop-of-length-le}
 use lib.Seq.{sets}
 use Rattle.field.specs.Pick.{pick}
 use Rattle.field.specs.Tests.{left-true, right-true}
+use Rattle.field.specs.Written.{written}
+use Rattle.field.specs.WrittenLaws.{sets-written}
 use Rattle.firmware.specs.Version.{isDigit}
 use Rattle.firmware.specs.WordLaws.{next}
 use Rattle.scripts.specs.Line.{isBlank, isLower, isUpper, hexOf, isHex, prepended, hexBytes, hexIn, orEmpty}
@@ -99,3 +101,78 @@ counted-none (some l) = omega arith
 pub counted-more : (n b : ℕ) (o : Option (List ℕ)) → counted n (prepended b o) ≡ counted (n + 1) o
 counted-more n b none = refl
 counted-more n b (some l) = omega arith
+
+-- The bytes that a loop puts into a lent slice, the first n of them being there and those from place i on left
+
+abbrev pub isGood : Option (List ℕ) → Bool
+isGood none = false
+isGood (some l) = true
+
+abbrev pub Filling : List ℕ → List ℕ → List ℕ → ℕ → ℕ → Type 0
+Filling s old out n i =
+    (isGood (hexBytes (drop i s)) ≡ true) × (n + length (hexIn (drop i s)) ≡ length (hexIn s)) × (sets out n (hexIn (drop i s)) ≡ sets old 0 (hexIn s))
+
+some-good : (o : Option (List ℕ)) → 0 < length (orEmpty o) → isGood o ≡ true
+some-good none h = absurd (omega arith)
+some-good (some l) h = refl
+
+pub filling-start : (s old : List ℕ) → 0 < length (hexIn s) → Filling s old old 0 0
+filling-start s old h = (some-good (hexBytes s) h, omega arith, refl)
+
+-- a blank
+pub filling-blank : (s old out : List ℕ) (n i : ℕ) → i < length s → isBlank (getD s i 0) ≡ true → Filling s old out n i → Filling s old out n (i + 1)
+filling-blank s old out n i h b f =
+    let e = hex-blank s i h b in
+    (rw e at (f .0), rw e at (f .1), rw e at (f .2))
+
+not-good : (s : List ℕ) (i : ℕ) → hexBytes (drop i s) ≡ none → isGood (hexBytes (drop i s)) ≡ true → ⊥
+not-good s i e g = let z : _≡_ {A = ℕ} 0 1 = cc (sym (ap isGood e) ∙ g) in omega arith
+
+-- anything else is a byte in two digits
+pub good-byte : (s : List ℕ) (i : ℕ) → i < length s → isBlank (getD s i 0) ≡ false → isGood (hexBytes (drop i s)) ≡ true
+    → (i + 1 < length s) × (hexOf (getD s i 0) < 16) × (hexOf (getD s (i + 1) 0) < 16)
+good-byte s i h b g = (long, first, second)
+  where
+    long : i + 1 < length s
+    long = go (ltb (i + 1) (length s)) refl
+      where
+        go : (t : Bool) → ltb (i + 1) (length s) ≡ t → i + 1 < length s
+        go true e = ltb-true (i + 1) (length s) e
+        go false e = absurd (not-good s i (hex-alone s i h (ltb-false (i + 1) (length s) e) b) g)
+
+    first : hexOf (getD s i 0) < 16
+    first = go (isHex (getD s i 0)) refl
+      where
+        go : (t : Bool) → isHex (getD s i 0) ≡ t → hexOf (getD s i 0) < 16
+        go true e = ltb-true (hexOf (getD s i 0)) 16 e
+        go false e = absurd (not-good s i (hex-first s i long b (ltb-false (hexOf (getD s i 0)) 16 e)) g)
+
+    second : hexOf (getD s (i + 1) 0) < 16
+    second = go (isHex (getD s (i + 1) 0)) refl
+      where
+        go : (t : Bool) → isHex (getD s (i + 1) 0) ≡ t → hexOf (getD s (i + 1) 0) < 16
+        go true e = ltb-true (hexOf (getD s (i + 1) 0)) 16 e
+        go false e = absurd (not-good s i (hex-second s i long b (ltb-false (hexOf (getD s (i + 1) 0)) 16 e)) g)
+
+one-put : (b : ℕ) (o : Option (List ℕ)) (n total : ℕ) (out whole : List ℕ)
+    → isGood (prepended b o) ≡ true → n + length (orEmpty (prepended b o)) ≡ total → sets out n (orEmpty (prepended b o)) ≡ whole
+    → (isGood o ≡ true) × (n + 1 + length (orEmpty o) ≡ total) × (sets (set out n b) (n + 1) (orEmpty o) ≡ whole)
+one-put b none n total out whole g p q = let z : _≡_ {A = ℕ} 0 1 = cc in absurd (omega arith)
+one-put b (some l) n total out whole g p q = (refl, omega arith, rw (add-one n) q)
+
+-- a byte
+pub filling-byte : (s old out : List ℕ) (n i : ℕ) → i < length s → isBlank (getD s i 0) ≡ false → Filling s old out n i
+    → Filling s old (set out n (16 * hexOf (getD s i 0) + hexOf (getD s (i + 1) 0))) (n + 1) (i + 2)
+filling-byte s old out n i h b f =
+    let r = good-byte s i h b (f .0) in
+    let e = hex-byte s i (r .0) b (r .1) (r .2) in
+    one-put (16 * hexOf (getD s i 0) + hexOf (getD s (i + 1) 0)) (hexBytes (drop (i + 2) s)) n (length (hexIn s)) out (sets old 0 (hexIn s))
+    (rw e at (f .0)) (rw e at (f .1)) (rw e at (f .2))
+
+-- which has its place
+pub filling-room : (s old out : List ℕ) (n i : ℕ) → i < length s → isBlank (getD s i 0) ≡ false → Filling s old out n i → n < length (hexIn s)
+filling-room s old out n i h b f = omega (arith, filling-byte s old out n i h b f .1)
+
+-- the end
+pub filling-end : (s old out : List ℕ) (n i : ℕ) → length s ≤ i → length (hexIn s) ≤ length old → Filling s old out n i → out ≡ written (hexIn s) old
+filling-end s old out n i h l f = rw (hex-end s i h) at (f .2) ∙ sets-written (hexIn s) old l
