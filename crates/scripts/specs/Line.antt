@@ -4,6 +4,7 @@
 --   <ms> firmware <number>
 -- Blank lines and lines that begin with "#" are skipped. Words stand apart by blanks; blanks before the first and after the last do not count.
 use Prim.Native.Nat.{ℕ, suc, _+_, _-_, _*_}
+use Prim.Native.String.{String}
 use mathlib.Core.Bool.{Bool, true, false, not, _&&_, _||_}
 use mathlib.Core.List.{List, [], _∷_}
 use mathlib.Core.Option.{Option, none, some}
@@ -123,13 +124,17 @@ abbrev pub versioned : ℕ → Option ℕ → List ℕ → Line
 versioned t none s = Bad 5
 versioned t (some v) s = pick (isEmpty s) (Firmware t v) (Bad 3)
 
+-- whether the word at the front is this text
+abbrev pub says : List ℕ → String → Bool
+says s text = same (wordOf s) (ascii text)
+
 -- what the second word and those after it say at the time t
 unfoldable pub saidAt : ℕ → List ℕ → Line
 saidAt t s =
     let more = restOf s in
-    pick (same (wordOf s) (ascii "tick")) (pick (isEmpty more) (Tick t) (Bad 3))
-    (pick (same (wordOf s) (ascii "wire")) (pick (isEmpty (hexIn more)) (Bad 4) (Wire t))
-    (pick (same (wordOf s) (ascii "firmware")) (versioned t (numberIn 65535 (wordOf more)) (restOf more)) (Bad 2)))
+    pick (says s "tick") (pick (isEmpty more) (Tick t) (Bad 3))
+    (pick (says s "wire") (pick (isEmpty (hexIn more)) (Bad 4) (Wire t))
+    (pick (says s "firmware") (versioned t (numberIn 65535 (wordOf more)) (restOf more)) (Bad 2)))
 
 -- a time, if there is one, and s after it
 abbrev pub timed : Option ℕ → List ℕ → Line

@@ -1,14 +1,13 @@
 -- Laws of numbers in digits, from what a loop over them knows. Assumes nothing.
 use Prim.Native.Nat.{ℕ, _+_, _-_, _*_, _≤_, _<_}
 use native.Mathlib.Omega.{arith}
-use mathlib.Core.Path.{_≡_, refl, sym, ap, ap₂, _∙_}
+use mathlib.Core.Path.{_≡_, refl, ap, ap₂, _∙_}
 use mathlib.Core.Bool.{Bool, true, false, _&&_, and-false}
 use mathlib.Core.List.{List, []}
 use mathlib.Core.Option.{none, some}
 use borrow.Author.Tests.{lt-ltb, le-leb, lt-leb}
 use lib.Dec.{leb, ltb}
 use lib.ListN.{length, getD, drop, drop-of-length-le}
-use Rattle.field.specs.Pick.{pick}
 use Rattle.firmware.specs.Version.{isDigit, allDigits, decimalFrom, decimal}
 use Rattle.firmware.specs.WordLaws.{digits-next, more-digits, decimal-next, decimal-le, digit-range}
 use Rattle.scripts.specs.Line.{hexOf, numberIn}

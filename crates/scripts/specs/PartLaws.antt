@@ -1,8 +1,8 @@
 -- Laws of the parts of a line, byte by byte. Assumes nothing.
 use Prim.Native.Nat.{ℕ, suc, _+_, _-_, _≤_, _<_}
 use native.Mathlib.Omega.{arith}
-use mathlib.Core.Path.{_≡_, refl, sym, ap, ap₂, _∙_}
-use mathlib.Core.Bool.{Bool, true, false, _&&_, and-false}
+use mathlib.Core.Path.{_≡_, refl, ap, ap₂}
+use mathlib.Core.Bool.{Bool, true, false, and-false}
 use mathlib.Core.List.{List, [], _∷_}
 use borrow.Author.Tests.{eq-eqb, ne-eqb, eqb-true}
 use lib.Dec.{eqb}
@@ -11,7 +11,7 @@ use lib.Seq.{take-all}
 use Rattle.field.specs.Pick.{pick}
 use Rattle.field.specs.Tests.{left-true, right-true}
 use Rattle.firmware.specs.WordLaws.{next}
-use Rattle.scripts.specs.Line.{lead, same, isEmpty}
+use Rattle.scripts.specs.Line.{lead, same}
 
 -- A run of bytes that pass a test: one more of them, the byte that ends it, and the end of the bytes
 
@@ -39,14 +39,6 @@ lead-le test (b ∷ s) = one-more (test b) (lead test s) (length s) (lead-le tes
 -- a slice's end as it is lent
 pub from-place : (s : List ℕ) (n : ℕ) → take (length s - n) (drop n s) ≡ drop n s
 from-place s n = take-all (length s - n) (drop n s) (simp length-drop (omega arith))
-
-pub empty-is : (s : List ℕ) → length s ≡ 0 → isEmpty s ≡ true
-empty-is [] h = refl
-empty-is (b ∷ s) h = absurd (omega arith)
-
-pub more-is : (s : List ℕ) → 0 < length s → isEmpty s ≡ false
-more-is [] h = absurd (omega arith)
-more-is (b ∷ s) h = refl
 
 -- Two words: a byte that both have, one in which they differ, their end, and that they are not as long
 

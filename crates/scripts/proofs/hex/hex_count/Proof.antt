@@ -89,8 +89,7 @@ loop-again-2 c =
     let s = c .before .before .before .before .before .before .before .before .before .before .before .before .before .args .s .now in
     let h : v .i + 1 < length s = omega (arith, c .before .before .before .before .before .before .if2 .left) in
     let a : hexOf (getD s (v .i) 0) < 16 = omega (arith, hex-range (getD s (v .i) 0) .2, c .before .before .before .before .hex-of .ensures, c .before .before .before .if3 .left) in
-    let b : hexOf (getD s (v .i + 1) 0) < 16 = omega (arith, hex-range (getD s (v .i + 1) 0) .2, c .before .hex-of2 .ensures, c .if4 .left) in
-    (
+    let b : hexOf (getD s (v .i + 1) 0) < 16 = omega (arith, hex-range (getD s (v .i + 1) 0) .2, c .before .hex-of2 .ensures, c .if4 .left) in (
       omega arith,
       omega arith,
       v .inv .2 ∙ ap (counted (v .n)) (hex-byte s (v .i) h (sym (c .before .before .before .before .before .before .before .before .is-blank .ensures) ∙ c .before .before .before .before .before .before .before .if1 .left) a b) ∙ counted-more (v .n) (16 * hexOf (getD s (v .i) 0) + hexOf (getD s (v .i + 1) 0)) (hexBytes (drop (v .i + 2) s)),

@@ -1,6 +1,6 @@
 -- `scripts::hex::hex_of` meets its contract. Assumes nothing.
 use native.Mathlib.Omega.{arith}
-use mathlib.Core.Path.{sym, _∙_}
+use mathlib.Core.Path.{sym}
 use borrow.Author.Needs.{needs}
 use Rattle.scripts.specs.HexLaws.{between, hex-decimal, hex-lower, hex-upper, hex-other}
 use Rattle.scripts.proofs.hex.hex_of.Statement.{statement}

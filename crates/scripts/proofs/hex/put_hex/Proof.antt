@@ -1,9 +1,9 @@
 -- `scripts::hex::put_hex` meets its contract. Assumes nothing.
-use Prim.Native.Nat.{_+_, _-_, _*_, _≤_, _<_}
+use Prim.Native.Nat.{_+_, _-_, _*_, _≤_}
 use native.Mathlib.Omega.{arith}
-use mathlib.Core.Path.{_≡_, refl, sym, ap, ap₂, _∙_}
+use mathlib.Core.Path.{_≡_, refl, sym, ap₂, _∙_}
 use borrow.Author.Needs.{needs}
-use lib.ListN.{length, getD, set, length-set}
+use lib.ListN.{length, getD, length-set}
 use Rattle.scripts.specs.Line.{hexOf}
 use Rattle.scripts.specs.HexLaws.{Filling, filling-start, filling-blank, filling-byte, filling-room, filling-end, good-byte}
 use Rattle.scripts.proofs.hex.put_hex.Statement.{statement}
@@ -89,8 +89,7 @@ loop-again-2 c =
     let v = c .before .before .before .before .before .before .before .before .loop in
     let a = c .before .before .before .before .before .before .before .before .before .before .before .args in
     let g = good-byte (a .s .now) (v .i) (omega arith) (sym (c .before .before .before .before .before .is-blank .ensures) ∙ c .before .before .before .before .if1 .left) (v .inv .3 .0) in
-    let x : 16 * c .before .before .hex-of .result + c .hex-of2 .result ≡ 16 * hexOf (getD (a .s .now) (v .i) 0) + hexOf (getD (a .s .now) (v .i + 1) 0) = ap₂ (λ p q. 16 * p + q) (c .before .before .hex-of .ensures) (c .hex-of2 .ensures) in
-    (
+    let x : 16 * c .before .before .hex-of .result + c .hex-of2 .result ≡ 16 * hexOf (getD (a .s .now) (v .i) 0) + hexOf (getD (a .s .now) (v .i + 1) 0) = ap₂ (λ p q. 16 * p + q) (c .before .before .hex-of .ensures) (c .hex-of2 .ensures) in (
       omega arith,
       omega (arith, g .0),
       simp length-set (v .inv .2),

@@ -1,9 +1,8 @@
 -- `scripts::words::rest` meets its contract. Assumes nothing.
-use Prim.Native.Nat.{_≤_}
 use native.Mathlib.Omega.{arith}
-use mathlib.Core.Path.{sym, ap, _∙_}
+use mathlib.Core.Path.{ap, _∙_}
 use borrow.Author.Needs.{needs}
-use lib.ListN.{length, drop}
+use lib.ListN.{drop}
 use Rattle.scripts.specs.Line.{inWord, afterBlanks}
 use Rattle.scripts.specs.PartLaws.{lead-le, from-place}
 use Rattle.scripts.proofs.words.rest.Statement.{statement}

@@ -4,7 +4,6 @@ use native.Mathlib.Omega.{arith}
 use mathlib.Core.Path.{_≡_, sym, ap, _∙_}
 use mathlib.Core.Bool.{not}
 use borrow.Author.Needs.{needs}
-use borrow.Author.Tests.{not-true}
 use lib.ListN.{length, drop}
 use Rattle.scripts.specs.Line.{inWord, lead}
 use Rattle.scripts.specs.PartLaws.{lead-on, lead-stop, lead-end}
