@@ -1,8 +1,8 @@
 -- Laws of lines, case by case. Assumes nothing.
 use Prim.Native.Nat.{ℕ, _≤_, _<_}
 use native.Mathlib.Omega.{arith}
-use mathlib.Core.Path.{_≡_, refl}
-use mathlib.Core.Bool.{Bool, true, false, _&&_}
+use mathlib.Core.Path.{_≡_, refl, sym, _∙_}
+use mathlib.Core.Bool.{Bool, true, false, _&&_, true≢false}
 use mathlib.Core.List.{List, [], _∷_}
 use mathlib.Core.Option.{Option, none, some, Option·some-injective}
 use borrow.Author.Tests.{eq-eqb, ne-eqb, le-leb, lt-leb, leb-true}
@@ -12,8 +12,9 @@ use Rattle.field.specs.Pick.{pick}
 use Rattle.field.specs.Tests.{right-true}
 use Rattle.field.specs.Written.{written}
 use Rattle.firmware.specs.Version.{allDigits, decimal}
+use Rattle.scripts.specs.declared.Line.{Line}
 use Rattle.scripts.specs.declared.Line.the-variants.{Skipped, Tick, Wire, Firmware, Bad}
-use Rattle.scripts.specs.Line.{afterBlanks, wordOf, restOf, numberIn, hexIn, isEmpty, isSkipped, versioned, says, saidAt, lineOf, isWire, wireBytes, fitting}
+use Rattle.scripts.specs.Line.{afterBlanks, wordOf, restOf, numberIn, hexIn, isEmpty, isSkipped, versioned, says, saidAt, timed, lineOf, isWire, wireBytes, fitting}
 
 empty-is : (s : List ℕ) → length s ≡ 0 → isEmpty s ≡ true
 empty-is [] h = refl
@@ -103,7 +104,7 @@ pub line-time : (line s : List ℕ) (t : ℕ) → s ≡ afterBlanks line → 0 <
 unfolding lineOf
 line-time line s t p h e n = rw (← p, skipped-not s h e, n)
 
--- The bytes of a line, and what is left in a lent slice: all of them where they fit, else none
+-- The bytes of a line
 
 pub wire-not : (line : List ℕ) → isWire (lineOf line) ≡ false → wireBytes line ≡ []
 unfolding wireBytes
@@ -112,6 +113,58 @@ wire-not line e = rw e
 pub wire-is : (line s : List ℕ) → isWire (lineOf line) ≡ true → s ≡ restOf (restOf (afterBlanks line)) → wireBytes line ≡ hexIn s
 unfolding wireBytes
 wire-is line s e p = rw (e, p)
+
+-- such a line has a byte at least
+
+never : {P : Type 0} → false ≡ true → P
+never e = absurd (true≢false (sym e))
+
+neither : (t : Bool) (a b : Line) → isWire a ≡ false → isWire b ≡ false → isWire (pick t a b) ≡ false
+neither true a b p q = p
+neither false a b p q = q
+
+version-not : (t : ℕ) (o : Option ℕ) (s : List ℕ) → isWire (versioned t o s) ≡ false
+version-not t none s = refl
+version-not t (some v) s = neither (isEmpty s) (Firmware t v) (Bad 3) refl refl
+
+some-left : (t : ℕ) (l : List ℕ) → isWire (pick (isEmpty l) (Bad 4) (Wire t)) ≡ true → 0 < length l
+some-left t [] e = never e
+some-left t (b ∷ l) e = omega arith
+
+said-some : (t : ℕ) (s : List ℕ) → isWire (saidAt t s) ≡ true → 0 < length (hexIn (restOf s))
+unfolding saidAt
+said-some t s = go (says s "tick") (says s "wire") (says s "firmware")
+  where
+    more : List ℕ
+    more = restOf s
+
+    tick : Line
+    tick = pick (isEmpty more) (Tick t) (Bad 3)
+
+    version : Line
+    version = versioned t (numberIn 65535 (wordOf more)) (restOf more)
+
+    go : (a b d : Bool) → isWire (pick a tick (pick b (pick (isEmpty (hexIn more)) (Bad 4) (Wire t)) (pick d version (Bad 2)))) ≡ true → 0 < length (hexIn more)
+    go true b d e = never (sym (neither (isEmpty more) (Tick t) (Bad 3) refl refl) ∙ e)
+    go false true d e = some-left t (hexIn more) e
+    go false false d e = never (sym (neither d version (Bad 2) (version-not t (numberIn 65535 (wordOf more)) (restOf more)) refl) ∙ e)
+
+line-some : (line : List ℕ) → isWire (lineOf line) ≡ true → 0 < length (hexIn (restOf (restOf (afterBlanks line))))
+unfolding lineOf
+line-some line = go (isSkipped s) (numberIn 18446744073709551615 (wordOf s))
+  where
+    s : List ℕ
+    s = afterBlanks line
+
+    go : (a : Bool) (o : Option ℕ) → isWire (pick a Skipped (timed o (restOf s))) ≡ true → 0 < length (hexIn (restOf (restOf s)))
+    go true o e = never e
+    go false none e = never e
+    go false (some t) e = said-some t (restOf s) e
+
+pub wire-some : (line : List ℕ) → isWire (lineOf line) ≡ true → 0 < length (wireBytes line)
+wire-some line e = rw (wire-is line (restOf (restOf (afterBlanks line))) e refl) (line-some line e)
+
+-- What is left in a lent slice: all bytes where they fit, else none of them
 
 abbrev pub Given : List ℕ → List ℕ → ℕ → List ℕ → Type 0
 Given bytes old count new = (count ≡ length (fitting (length old) bytes)) × (new ≡ written (fitting (length old) bytes) old)

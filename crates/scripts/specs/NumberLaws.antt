@@ -4,13 +4,15 @@ use native.Mathlib.Omega.{arith}
 use mathlib.Core.Path.{_≡_, refl, ap, ap₂, _∙_}
 use mathlib.Core.Bool.{Bool, true, false, _&&_, and-false}
 use mathlib.Core.List.{List, []}
-use mathlib.Core.Option.{none, some}
+use mathlib.Core.Option.{none, some, Option·some-injective}
 use borrow.Author.Tests.{lt-ltb, le-leb, lt-leb}
 use lib.Dec.{leb, ltb}
 use lib.ListN.{length, getD, drop, drop-of-length-le}
 use Rattle.firmware.specs.Version.{isDigit, allDigits, decimalFrom, decimal}
 use Rattle.firmware.specs.WordLaws.{digits-next, more-digits, decimal-next, decimal-le, digit-range}
-use Rattle.scripts.specs.Line.{hexOf, numberIn}
+use Rattle.scripts.specs.declared.Decimal.{Decimal}
+use Rattle.scripts.specs.declared.Decimal.the-variants.{Value, Nothing}
+use Rattle.scripts.specs.Line.{hexOf, numberIn, toldDecimal}
 use Rattle.scripts.specs.HexLaws.{hex-decimal, hex-range}
 
 digit-of : (b : ℕ) → hexOf b ≤ 9 → isDigit b ≡ true
@@ -72,3 +74,10 @@ number-good most s v i p h q l =
     let d : decimal s ≡ v = rw e at (q .1) in
     let a : allDigits s ≡ true = rw e at (q .0) in
     rw (lt-ltb 0 (length s) p, a, d, le-leb v most l)
+
+-- what a contract says by `toldDecimal` leaves no answer open
+pub decimal-tells : (r q : Decimal) → toldDecimal r ≡ toldDecimal q → r ≡ q
+decimal-tells (Value v) (Value w) e = ap Value (Option·some-injective v w e)
+decimal-tells (Value v) Nothing e = let z : _≡_ {A = ℕ} 0 1 = cc in absurd (omega arith)
+decimal-tells Nothing (Value w) e = let z : _≡_ {A = ℕ} 0 1 = cc in absurd (omega arith)
+decimal-tells Nothing Nothing e = refl

@@ -1,7 +1,12 @@
 // The lines of a script, which says what a gateway tells the host and when: `<ms> tick`, `<ms> wire <hex>`, `<ms> firmware <number>`.
-// Blank lines and lines that begin with # are skipped. A line that cannot be read gets a number:
-//   1 no time   2 no such word   3 something after the end   4 no bytes   5 no firmware number
-// It stands on `field` and, for digits, on `firmware`; the program `startup` stands above it. No pub function requires anything.
+// Blank lines and lines that begin with # are skipped. A line that cannot be read has a number:
+//   1  no time: the first word is no number up to 18446744073709551615
+//   2  no such word after the time
+//   3  something after `tick`, or after the firmware's number
+//   4  not one byte or more in pairs of hexadecimal digits
+//   5  no firmware's number up to 65535
+// It stands on `field` and, for digits, on `firmware` (and in one law on `report`, which writes numbers); the program `startup` stands above it.
+// No function here that is pub requires anything.
 mod hex;
 mod words;
 
@@ -18,6 +23,7 @@ use crate::words::rest;
 use crate::words::word;
 pub use words::line_end;
 
+// What a line says, with its time.
 pub enum Line {
     Skipped,
     Tick(u64),
@@ -26,6 +32,7 @@ pub enum Line {
     Bad(u8),
 }
 
+// A number, if there is one.
 pub enum Decimal {
     Value(u64),
     Nothing,
@@ -41,6 +48,7 @@ pub fn number(s: &[u8], most: u64) -> Decimal
     let mut v: u64 = 0;
     let mut i: usize = 0;
     while i < s.len() {
+        // 9 at the most just for a decimal digit
         let d = hex_of(s[i]) as u64;
         if 9 < d {
             return Decimal::Nothing;
@@ -57,7 +65,7 @@ pub fn number(s: &[u8], most: u64) -> Decimal
     Decimal::Value(v)
 }
 
-// The firmware's number at the time t, and nothing after it.
+// The firmware's number, told at the time t.
 fn firmware_at(t: u64, s: &[u8]) -> Line
     ensures { λ r. ⌜ r ≡ versioned t (numberIn 65535 (wordOf (now (s .entry)))) (restOf (now (s .entry))) ⌝ }
 {
@@ -75,7 +83,7 @@ fn firmware_at(t: u64, s: &[u8]) -> Line
     }
 }
 
-// What is said at the time t.
+// What a line says after its time t.
 fn said_at(t: u64, s: &[u8]) -> Line
     ensures { λ r. ⌜ r ≡ saidAt t (now (s .entry)) ⌝ }
 {
@@ -99,6 +107,7 @@ fn said_at(t: u64, s: &[u8]) -> Line
     Line::Bad(2)
 }
 
+// The line without its line feed.
 pub fn read_line(line: &[u8]) -> Line
     ensures { λ r. ⌜ r ≡ lineOf (now (line .entry)) ⌝ }
 {
@@ -130,7 +139,7 @@ fn is_wire(l: Line) -> bool
     }
 }
 
-// Writes the bytes of a `Wire` line, and returns how many; where there is no room for all of them, none.
+// Writes the bytes of a `Wire` line to the front of out, and returns how many; where there is no room for all of them, none. Another line has none.
 pub fn wire_bytes(line: &[u8], out: &mut [u8]) -> usize
     ensures { λ r. ⌜ (r ≡ length (fitting (length (now (out .entry))) (wireBytes (now (line .entry))))) × (now (out .exit) ≡ written (fitting (length (now (out .entry))) (wireBytes (now (line .entry)))) (now (out .entry))) ⌝ }
 {
@@ -140,9 +149,6 @@ pub fn wire_bytes(line: &[u8], out: &mut [u8]) -> usize
     let digits = rest(rest(after_blanks(line)));
     let n = hex_count(digits);
     if out.len() < n {
-        return 0;
-    }
-    if n == 0 {
         return 0;
     }
     put_hex(digits, out);
