@@ -8,27 +8,32 @@ use Rattle.scripts.specs.declared.Line.the-variants.{Skipped, Tick, Wire
 use Rattle.scripts.specs.Line.{lead, lineEnd, same, numberIn, hexOf, hexBytes, saidAt, lineOf, wireBytes, fitting}
 
 -- each kind of line
-pub kinds : (lineOf (ascii "5 tick") ≡ Tick 5) × (lineOf (ascii "70 wire 1002") ≡ Wire 70) × (lineOf (ascii "0 firmware 2690") ≡ Firmware 0 2690) × (lineOf (ascii "# x") ≡ Skipped)
+pub kinds : (lineOf (ascii "5 tick") ≡ Tick 5) × (lineOf (ascii "70 wire 1002") ≡ Wire 70)
+    × (lineOf (ascii "0 firmware 2690") ≡ Firmware 0 2690) × (lineOf (ascii "# x") ≡ Skipped)
 unfolding lineOf saidAt numberIn lead same hexBytes hexOf allDigits decimalFrom asciiFrom
 kinds = (refl, refl, refl, refl)
 
 -- a blank line, and "#" behind blanks
-pub skipped : (lineOf (ascii "") ≡ Skipped) × (lineOf (ascii "   ") ≡ Skipped) × (lineOf (ascii "  # x") ≡ Skipped) × (lineOf (ascii "#5 tick") ≡ Skipped)
+pub skipped : (lineOf (ascii "") ≡ Skipped) × (lineOf (ascii "   ") ≡ Skipped) × (lineOf (ascii "  # x") ≡ Skipped)
+    × (lineOf (ascii "#5 tick") ≡ Skipped)
 unfolding lineOf saidAt numberIn lead same hexBytes hexOf allDigits decimalFrom asciiFrom
 skipped = (refl, refl, refl, refl)
 
 -- blanks before the first word, several between two, behind the last; tabs, and a carriage return at the end
-pub blanks : (lineOf (ascii "  5   tick  ") ≡ Tick 5) × (lineOf (ascii "\t5\ttick\r") ≡ Tick 5) × (lineOf (ascii "5 wire\t10\t02\r") ≡ Wire 5) × (lineOf (ascii "\r") ≡ Skipped) × (lineOf (ascii "5 firmware 1\r") ≡ Firmware 5 1)
+pub blanks : (lineOf (ascii "  5   tick  ") ≡ Tick 5) × (lineOf (ascii "\t5\ttick\r") ≡ Tick 5)
+    × (lineOf (ascii "5 wire\t10\t02\r") ≡ Wire 5) × (lineOf (ascii "\r") ≡ Skipped) × (lineOf (ascii "5 firmware 1\r") ≡ Firmware 5 1)
 unfolding lineOf saidAt numberIn lead same hexBytes hexOf allDigits decimalFrom asciiFrom
 blanks = (refl, refl, refl, refl, refl)
 
 -- 1: no time
-pub no-time : (lineOf (ascii "x tick") ≡ Bad 1) × (lineOf (ascii "tick") ≡ Bad 1) × (lineOf (ascii "5x tick") ≡ Bad 1) × (lineOf (ascii "-5 tick") ≡ Bad 1) × (lineOf (ascii "18446744073709551616 tick") ≡ Bad 1)
+pub no-time : (lineOf (ascii "x tick") ≡ Bad 1) × (lineOf (ascii "tick") ≡ Bad 1) × (lineOf (ascii "5x tick") ≡ Bad 1)
+    × (lineOf (ascii "-5 tick") ≡ Bad 1) × (lineOf (ascii "18446744073709551616 tick") ≡ Bad 1)
 unfolding lineOf saidAt numberIn lead same hexBytes hexOf allDigits decimalFrom asciiFrom
 no-time = (refl, refl, refl, refl, refl)
 
 -- 2: no such word; words are in lower case
-pub no-word : (lineOf (ascii "5") ≡ Bad 2) × (lineOf (ascii "5 ") ≡ Bad 2) × (lineOf (ascii "5 Tick") ≡ Bad 2) × (lineOf (ascii "5 ticks") ≡ Bad 2) × (lineOf (ascii "5 tic") ≡ Bad 2) × (lineOf (ascii "5 # tick") ≡ Bad 2)
+pub no-word : (lineOf (ascii "5") ≡ Bad 2) × (lineOf (ascii "5 ") ≡ Bad 2) × (lineOf (ascii "5 Tick") ≡ Bad 2)
+    × (lineOf (ascii "5 ticks") ≡ Bad 2) × (lineOf (ascii "5 tic") ≡ Bad 2) × (lineOf (ascii "5 # tick") ≡ Bad 2)
 unfolding lineOf saidAt numberIn lead same hexBytes hexOf allDigits decimalFrom asciiFrom
 no-word = (refl, refl, refl, refl, refl, refl)
 
@@ -38,22 +43,30 @@ unfolding lineOf saidAt numberIn lead same hexBytes hexOf allDigits decimalFrom 
 too-much = (refl, refl, refl)
 
 -- 4: no bytes, a blank inside a byte, a digit alone, something that is no digit
-pub no-bytes : (lineOf (ascii "5 wire") ≡ Bad 4) × (lineOf (ascii "5 wire ") ≡ Bad 4) × (lineOf (ascii "5 wire 1 00 2") ≡ Bad 4) × (lineOf (ascii "5 wire 100") ≡ Bad 4) × (lineOf (ascii "5 wire 10 0") ≡ Bad 4) × (lineOf (ascii "5 wire 10 0g") ≡ Bad 4) × (lineOf (ascii "5 wire 0x10") ≡ Bad 4)
+pub no-bytes : (lineOf (ascii "5 wire") ≡ Bad 4) × (lineOf (ascii "5 wire ") ≡ Bad 4) × (lineOf (ascii "5 wire 1 00 2") ≡ Bad 4)
+    × (lineOf (ascii "5 wire 100") ≡ Bad 4) × (lineOf (ascii "5 wire 10 0") ≡ Bad 4) × (lineOf (ascii "5 wire 10 0g") ≡ Bad 4)
+    × (lineOf (ascii "5 wire 0x10") ≡ Bad 4)
 unfolding lineOf saidAt numberIn lead same hexBytes hexOf allDigits decimalFrom asciiFrom
 no-bytes = (refl, refl, refl, refl, refl, refl, refl)
 
 -- 5: no firmware number
-pub no-version : (lineOf (ascii "5 firmware") ≡ Bad 5) × (lineOf (ascii "5 firmware x") ≡ Bad 5) × (lineOf (ascii "5 firmware 2.690") ≡ Bad 5) × (lineOf (ascii "5 firmware 65536") ≡ Bad 5) × (lineOf (ascii "5 firmware 65536 x") ≡ Bad 5)
+pub no-version : (lineOf (ascii "5 firmware") ≡ Bad 5) × (lineOf (ascii "5 firmware x") ≡ Bad 5)
+    × (lineOf (ascii "5 firmware 2.690") ≡ Bad 5) × (lineOf (ascii "5 firmware 65536") ≡ Bad 5)
+    × (lineOf (ascii "5 firmware 65536 x") ≡ Bad 5)
 unfolding lineOf saidAt numberIn lead same hexBytes hexOf allDigits decimalFrom asciiFrom
 no-version = (refl, refl, refl, refl, refl)
 
 -- the largest numbers, and zeros before a number
-pub largest : (lineOf (ascii "18446744073709551615 tick") ≡ Tick 18446744073709551615) × (lineOf (ascii "5 firmware 65535") ≡ Firmware 5 65535) × (lineOf (ascii "00000000000000000000005 tick") ≡ Tick 5) × (numberIn 0 (ascii "0") ≡ some 0) × (numberIn 9 (ascii "10") ≡ none) × (numberIn 10 (ascii "10") ≡ some 10)
+pub largest : (lineOf (ascii "18446744073709551615 tick") ≡ Tick 18446744073709551615)
+    × (lineOf (ascii "5 firmware 65535") ≡ Firmware 5 65535) × (lineOf (ascii "00000000000000000000005 tick") ≡ Tick 5)
+    × (numberIn 0 (ascii "0") ≡ some 0) × (numberIn 9 (ascii "10") ≡ none) × (numberIn 10 (ascii "10") ≡ some 10)
 unfolding lineOf saidAt numberIn lead same hexBytes hexOf allDigits decimalFrom asciiFrom
 largest = (refl, refl, refl, refl, refl, refl)
 
 -- the bytes of a line, in upper and lower case, with blanks and with none
-pub bytes : (wireBytes (ascii "5 wire 10 02 aB fF 9a") ≡ 0x10 ∷ 0x02 ∷ 0xAB ∷ 0xFF ∷ 0x9A ∷ []) × (wireBytes (ascii "5 wire 1002") ≡ 0x10 ∷ 0x02 ∷ []) × (wireBytes (ascii "5 tick") ≡ []) × (wireBytes (ascii "5 wire 10 0") ≡ []) × (wireBytes (ascii "x wire 10") ≡ [])
+pub bytes : (wireBytes (ascii "5 wire 10 02 aB fF 9a") ≡ 0x10 ∷ 0x02 ∷ 0xAB ∷ 0xFF ∷ 0x9A ∷ [])
+    × (wireBytes (ascii "5 wire 1002") ≡ 0x10 ∷ 0x02 ∷ []) × (wireBytes (ascii "5 tick") ≡ []) × (wireBytes (ascii "5 wire 10 0") ≡ [])
+    × (wireBytes (ascii "x wire 10") ≡ [])
 unfolding wireBytes lineOf saidAt numberIn lead same hexBytes hexOf allDigits decimalFrom asciiFrom
 bytes = (refl, refl, refl, refl, refl)
 

@@ -2,9 +2,10 @@
 use Prim.Native.Nat.{_+_, _-_, _*_, _≤_, _<_}
 use native.Mathlib.Omega.{arith}
 use mathlib.Core.Path.{_≡_, sym, ap, _∙_}
+use mathlib.Core.Bool.{false}
 use borrow.Author.Needs.{needs}
 use lib.ListN.{length, drop, getD}
-use Rattle.scripts.specs.Line.{hexOf, hexBytes, hexIn}
+use Rattle.scripts.specs.Line.{isBlank, hexOf, hexBytes, hexIn}
 use Rattle.scripts.specs.HexLaws.{counted, counted-none, counted-more, hex-range, hex-blank, hex-alone, hex-first, hex-second, hex-byte, hex-end}
 use Rattle.scripts.proofs.hex.hex_count.Statement.{statement}
 use Rattle.scripts.proofs.hex.hex_count.Tie as tie
@@ -14,6 +15,10 @@ Inv-loop s n₀ i₀ n i = (n ≤ i) × (i ≤ length s) × (length (hexIn s) �
 
 abbrev μ-loop : tie.MeasureT-loop
 μ-loop s n₀ i₀ n i = length s - i
+
+-- what stands at the place is no blank
+no-blank : (c : tie.Else1 Inv-loop μ-loop) → isBlank (getD (c .before .before .before .before .before .before .args .s .now) (c .before .before .before .before .loop .i) 0) ≡ false
+no-blank c = sym (c .before .is-blank .ensures) ∙ c .if1 .left
 
 loop-holds : tie.Need-loop-holds Inv-loop μ-loop
 loop-holds c = (omega arith, omega arith, sym (counted-none (hexBytes (c .before .args .s .now))))
@@ -43,7 +48,7 @@ returns : tie.Need-returns Inv-loop μ-loop
 returns c =
     let v = c .before .before .before .before .before .loop in
     let s = c .before .before .before .before .before .before .before .args .s .now in
-    sym (v .inv .2 ∙ ap (counted (v .n)) (hex-alone s (v .i) (omega arith) (omega (arith, c .if2 .taken)) (sym (c .before .before .is-blank .ensures) ∙ c .before .if1 .left)))
+    sym (v .inv .2 ∙ ap (counted (v .n)) (hex-alone s (v .i) (omega arith) (omega (arith, c .if2 .taken)) (no-blank (c .before))))
 
 shared-slice-read-hex-of : tie.Need-shared-slice-read-hex-of Inv-loop μ-loop
 shared-slice-read-hex-of c = search needs
@@ -56,7 +61,7 @@ returns-2 c =
     let v = c .before .before .before .before .before .before .before .before .loop in
     let s = c .before .before .before .before .before .before .before .before .before .before .args .s .now in
     let h : v .i + 1 < length s = omega (arith, c .before .before .before .if2 .left) in
-    sym (v .inv .2 ∙ ap (counted (v .n)) (hex-first s (v .i) h (sym (c .before .before .before .before .before .is-blank .ensures) ∙ c .before .before .before .before .if1 .left) (omega (arith, c .before .hex-of .ensures, c .if3 .taken))))
+    sym (v .inv .2 ∙ ap (counted (v .n)) (hex-first s (v .i) h (no-blank (c .before .before .before .before)) (omega (arith, c .before .hex-of .ensures, c .if3 .taken))))
 
 add-hex-of : tie.Need-add-hex-of Inv-loop μ-loop
 add-hex-of c = search needs
@@ -72,7 +77,7 @@ returns-3 c =
     let v = c .before .before .before .before .before .before .before .before .before .before .before .loop in
     let s = c .before .before .before .before .before .before .before .before .before .before .before .before .before .args .s .now in
     let h : v .i + 1 < length s = omega (arith, c .before .before .before .before .before .before .if2 .left) in
-    sym (v .inv .2 ∙ ap (counted (v .n)) (hex-second s (v .i) h (sym (c .before .before .before .before .before .before .before .before .is-blank .ensures) ∙ c .before .before .before .before .before .before .before .if1 .left) (omega (arith, c .before .hex-of2 .ensures, c .if4 .taken))))
+    sym (v .inv .2 ∙ ap (counted (v .n)) (hex-second s (v .i) h (no-blank (c .before .before .before .before .before .before .before)) (omega (arith, c .before .hex-of2 .ensures, c .if4 .taken))))
 
 add-n : tie.Need-add-n Inv-loop μ-loop
 add-n c = search needs
@@ -92,7 +97,7 @@ loop-again-2 c =
     let b : hexOf (getD s (v .i + 1) 0) < 16 = omega (arith, hex-range (getD s (v .i + 1) 0) .2, c .before .hex-of2 .ensures, c .if4 .left) in (
       omega arith,
       omega arith,
-      v .inv .2 ∙ ap (counted (v .n)) (hex-byte s (v .i) h (sym (c .before .before .before .before .before .before .before .before .is-blank .ensures) ∙ c .before .before .before .before .before .before .before .if1 .left) a b) ∙ counted-more (v .n) (16 * hexOf (getD s (v .i) 0) + hexOf (getD s (v .i + 1) 0)) (hexBytes (drop (v .i + 2) s)),
+      v .inv .2 ∙ ap (counted (v .n)) (hex-byte s (v .i) h (no-blank (c .before .before .before .before .before .before .before)) a b) ∙ counted-more (v .n) (16 * hexOf (getD s (v .i) 0) + hexOf (getD s (v .i + 1) 0)) (hexBytes (drop (v .i + 2) s)),
     )
 
 returns-4 : tie.Need-returns-4 Inv-loop μ-loop

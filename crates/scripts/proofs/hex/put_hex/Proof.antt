@@ -1,10 +1,11 @@
 -- `scripts::hex::put_hex` meets its contract. Assumes nothing.
-use Prim.Native.Nat.{_+_, _-_, _*_, _≤_}
+use Prim.Native.Nat.{_+_, _-_, _*_, _≤_, _<_}
 use native.Mathlib.Omega.{arith}
 use mathlib.Core.Path.{_≡_, refl, sym, ap₂, _∙_}
+use mathlib.Core.Bool.{false}
 use borrow.Author.Needs.{needs}
 use lib.ListN.{length, getD, length-set}
-use Rattle.scripts.specs.Line.{hexOf}
+use Rattle.scripts.specs.Line.{isBlank, hexOf}
 use Rattle.scripts.specs.HexLaws.{Filling, filling-start, filling-blank, filling-byte, filling-room, filling-end, good-byte}
 use Rattle.scripts.proofs.hex.put_hex.Statement.{statement}
 use Rattle.scripts.proofs.hex.put_hex.Tie as tie
@@ -14,6 +15,15 @@ Inv-loop s out₀ n₀ i₀ out n i = (n ≤ i) × (i ≤ length s) × (length o
 
 abbrev μ-loop : tie.MeasureT-loop
 μ-loop s out₀ n₀ i₀ out n i = length s - i
+
+-- what stands at the place is no blank
+no-blank : (c : tie.Else1 Inv-loop μ-loop) → isBlank (getD (c .before .before .before .before .before .before .before .args .s .now) (c .before .before .before .before .loop .i) 0) ≡ false
+no-blank c = sym (c .before .is-blank .ensures) ∙ c .if1 .left
+
+-- so it begins a byte in two digits
+good : (c : tie.Else1 Inv-loop μ-loop)
+    → let s = c .before .before .before .before .before .before .before .args .s .now in let i = c .before .before .before .before .loop .i in (i + 1 < length s) × (hexOf (getD s i 0) < 16) × (hexOf (getD s (i + 1) 0) < 16)
+good c = let v = c .before .before .before .before .loop in good-byte (c .before .before .before .before .before .before .before .args .s .now) (v .i) (omega arith) (no-blank c) (v .inv .3 .0)
 
 loop-holds : tie.Need-loop-holds Inv-loop μ-loop
 loop-holds c = let a = c .before .before .args in (omega arith, omega arith, refl, filling-start (a .s .now) (a .out .now) (c .before .before .pre .0))
@@ -43,37 +53,25 @@ hex-of-requires : tie.Need-hex-of-requires Inv-loop μ-loop
 hex-of-requires c κs = search needs
 
 mul-out : tie.Need-mul-out Inv-loop μ-loop
-mul-out c =
-    let v = c .before .before .before .before .before .before .loop in
-    let a = c .before .before .before .before .before .before .before .before .before .args in
-    omega (arith, c .hex-of .ensures, good-byte (a .s .now) (v .i) (omega arith) (sym (c .before .before .before .is-blank .ensures) ∙ c .before .before .if1 .left) (v .inv .3 .0))
+mul-out c = omega (arith, c .hex-of .ensures, good (c .before .before))
 
 add-hex-of : tie.Need-add-hex-of Inv-loop μ-loop
-add-hex-of c =
-    let v = c .before .before .before .before .before .before .loop in
-    let a = c .before .before .before .before .before .before .before .before .before .args in
-    omega (arith, good-byte (a .s .now) (v .i) (omega arith) (sym (c .before .before .before .is-blank .ensures) ∙ c .before .before .if1 .left) (v .inv .3 .0))
+add-hex-of c = omega (arith, good (c .before .before))
 
 shared-slice-read-hex-of-2 : tie.Need-shared-slice-read-hex-of-2 Inv-loop μ-loop
-shared-slice-read-hex-of-2 c =
-    let v = c .before .before .before .before .before .before .before .loop in
-    let a = c .before .before .before .before .before .before .before .before .before .before .args in
-    omega (arith, good-byte (a .s .now) (v .i) (omega arith) (sym (c .before .before .before .before .is-blank .ensures) ∙ c .before .before .before .if1 .left) (v .inv .3 .0))
+shared-slice-read-hex-of-2 c = omega (arith, good (c .before .before .before))
 
 hex-of-requires-2 : tie.Need-hex-of-requires-2 Inv-loop μ-loop
 hex-of-requires-2 c κs = search needs
 
 add-out : tie.Need-add-out Inv-loop μ-loop
-add-out c =
-    let v = c .before .before .before .before .before .before .before .before .loop in
-    let a = c .before .before .before .before .before .before .before .before .before .before .before .args in
-    omega (arith, c .before .before .hex-of .ensures, c .hex-of2 .ensures, good-byte (a .s .now) (v .i) (omega arith) (sym (c .before .before .before .before .before .is-blank .ensures) ∙ c .before .before .before .before .if1 .left) (v .inv .3 .0))
+add-out c = omega (arith, c .before .before .hex-of .ensures, c .hex-of2 .ensures, good (c .before .before .before .before))
 
 slice-write-out : tie.Need-slice-write-out Inv-loop μ-loop
 slice-write-out c =
     let v = c .before .before .before .before .before .before .before .before .loop in
     let a = c .before .before .before .before .before .before .before .before .before .before .before .args in
-    omega (arith, v .inv .2, c .before .before .before .before .before .before .before .before .before .before .before .pre .1, filling-room (a .s .now) (a .out .now) (v .out) (v .n) (v .i) (omega arith) (sym (c .before .before .before .before .before .is-blank .ensures) ∙ c .before .before .before .before .if1 .left) (v .inv .3))
+    omega (arith, v .inv .2, c .before .before .before .before .before .before .before .before .before .before .before .pre .1, filling-room (a .s .now) (a .out .now) (v .out) (v .n) (v .i) (omega arith) (no-blank (c .before .before .before .before)) (v .inv .3))
 
 add-n : tie.Need-add-n Inv-loop μ-loop
 add-n c = search needs
@@ -88,12 +86,12 @@ loop-again-2 : tie.Need-loop-again-2 Inv-loop μ-loop
 loop-again-2 c =
     let v = c .before .before .before .before .before .before .before .before .loop in
     let a = c .before .before .before .before .before .before .before .before .before .before .before .args in
-    let g = good-byte (a .s .now) (v .i) (omega arith) (sym (c .before .before .before .before .before .is-blank .ensures) ∙ c .before .before .before .before .if1 .left) (v .inv .3 .0) in
+    let g = good (c .before .before .before .before) in
     let x : 16 * c .before .before .hex-of .result + c .hex-of2 .result ≡ 16 * hexOf (getD (a .s .now) (v .i) 0) + hexOf (getD (a .s .now) (v .i + 1) 0) = ap₂ (λ p q. 16 * p + q) (c .before .before .hex-of .ensures) (c .hex-of2 .ensures) in (
       omega arith,
       omega (arith, g .0),
       simp length-set (v .inv .2),
-      rw x (filling-byte (a .s .now) (a .out .now) (v .out) (v .n) (v .i) (omega arith) (sym (c .before .before .before .before .before .is-blank .ensures) ∙ c .before .before .before .before .if1 .left) (v .inv .3)),
+      rw x (filling-byte (a .s .now) (a .out .now) (v .out) (v .n) (v .i) (omega arith) (no-blank (c .before .before .before .before)) (v .inv .3)),
     )
 
 same-length : tie.Need-same-length Inv-loop μ-loop
