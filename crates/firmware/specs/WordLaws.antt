@@ -57,7 +57,7 @@ rest-long w d e = rw (sym e) (length-drop (d + 1) w)
 
 -- Digits
 
-digits-next : (s : List ℕ) (i : ℕ) → i < length s → allDigits (drop i s) ≡ (isDigit (getD s i 0) && allDigits (drop (i + 1) s))
+pub digits-next : (s : List ℕ) (i : ℕ) → i < length s → allDigits (drop i s) ≡ (isDigit (getD s i 0) && allDigits (drop (i + 1) s))
 unfolding allDigits
 digits-next s i h = rw (next s i h)
 
@@ -72,7 +72,7 @@ pub digit-range : (b : ℕ) → isDigit b ≡ true → (48 ≤ b) × (b ≤ 57)
 digit-range b e = let p = both-true (leb 48 b) (leb b 57) e in (leb-true 48 b (p .0), leb-true b 57 (p .1))
 
 -- more digits make no smaller number
-decimal-le : (v : ℕ) (l : List ℕ) → allDigits l ≡ true → v ≤ decimalFrom v l
+pub decimal-le : (v : ℕ) (l : List ℕ) → allDigits l ≡ true → v ≤ decimalFrom v l
 unfolding decimalFrom allDigits
 decimal-le v [] e = omega arith
 decimal-le v (b ∷ bs) e =
