@@ -21,10 +21,12 @@ countsFit l c =
     && leb (c .present) 256
     && leb (c .refused) 256
 
+-- "before enabling (done aside) a record list passes 192"
 abbrev pub oldFits : Counts → Bool
 oldFits c = leb (c .saved) 192 && leb (c .present) 192 && leb (c .refused) 192
 
--- sums and record lists
+-- "before enabling (done aside) a record list passes 192; enabling, .. fresh + owed passes 64, known + owed 1,344, or present + owed,
+-- refused + owed or saved + fresh + owed 256; committing or activating, saved + fresh passes 256"
 abbrev pub sumsFit : Limits → Counts → State → Bool
 sumsFit l c AwaitStartup = oldFits c
 sumsFit l c ReadAt = oldFits c
@@ -40,5 +42,6 @@ sumsFit l c Committing = leb (c .saved + c .fresh) 256
 sumsFit l c Activating = leb (c .saved + c .fresh) 256
 sumsFit l c Done = true
 
+-- "State is not well formed when: .." of a session: the tests of capacity, of the format, of what is owed and of the sums, joined
 abbrev pub soundAt : Limits → Counts → State → Bool
 soundAt l c st = countsFit l c && (formatIn (l .two) st && (owesIn st (c .owed) && sumsFit l c st))

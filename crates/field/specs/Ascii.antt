@@ -9,5 +9,6 @@ unfoldable pub asciiFrom : String → ℕ → ℕ → List ℕ
 asciiFrom s i zero = []
 asciiFrom s i (suc k) = code (charAt s i) ∷ asciiFrom s (i + 1) k
 
+-- a whole text
 abbrev pub ascii : String → List ℕ
 ascii s = asciiFrom s 0 (len s)

@@ -8,6 +8,7 @@ use Rattle.firmware.specs.Version.{decimal, isMajor}
 use Rattle.firmware.specs.declared.Decimal.{Decimal}
 use Rattle.firmware.specs.declared.Decimal.the-variants.{Value, Nothing}
 
+-- the answer of the private function `number`: the value, or that there is none
 abbrev pub toldDecimal : Decimal → Option ℕ
 toldDecimal (Value v) = some v
 toldDecimal Nothing = none

@@ -30,6 +30,7 @@ unfoldable pub beforeDot : List ℕ → List ℕ
 beforeDot [] = []
 beforeDot (b ∷ bs) = pick (eqb b 46) [] (b ∷ beforeDot bs)
 
+-- "its first dot": the word has one
 abbrev pub hasDot : List ℕ → Bool
 hasDot w = ltb (length (beforeDot w)) (length w)
 
@@ -37,6 +38,7 @@ hasDot w = ltb (length (beforeDot w)) (length w)
 unfoldable pub afterDot : List ℕ → List ℕ
 afterDot w = drop (length (beforeDot w) + 1) w
 
+-- "digits": all bytes are
 unfoldable pub allDigits : List ℕ → Bool
 allDigits [] = true
 allDigits (b ∷ bs) = isDigit b && allDigits bs
@@ -46,6 +48,7 @@ unfoldable pub decimalFrom : ℕ → List ℕ → ℕ
 decimalFrom v [] = v
 decimalFrom v (b ∷ bs) = decimalFrom (v * 10 + b - 48) bs
 
+-- the number that digits spell
 abbrev pub decimal : List ℕ → ℕ
 decimal l = decimalFrom 0 l
 
@@ -69,9 +72,11 @@ versionOf w = decimal (beforeDot w) * 1000 + decimal (filled (afterDot w))
 unfoldable pub counts : List ℕ → Bool
 counts w = hasDot w && (isMajor (beforeDot w) && (isMinor (afterDot w) && ltb (versionOf w) 65536))
 
+-- what a word is worth: its version if it counts
 unfoldable pub wordValue : List ℕ → Option ℕ
 wordValue w = pick (counts w) (some (versionOf w)) none
 
+-- the first where it is something, else the second
 abbrev pub orElse : Option ℕ → Option ℕ → Option ℕ
 orElse (some v) b = some v
 orElse none b = b
@@ -81,6 +86,7 @@ unfoldable pub lastOf : List (List ℕ) → Option ℕ
 lastOf [] = none
 lastOf (w ∷ ws) = orElse (lastOf ws) (wordValue w)
 
+-- `firmware` of a text: "The last word that counts is taken."
 unfoldable pub firmwareOf : List ℕ → Option ℕ
 firmwareOf text = lastOf (wordsFrom [] text)
 

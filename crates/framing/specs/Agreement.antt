@@ -19,6 +19,7 @@ use Rattle.framing.specs.Encode.{wrote, encoded}
 use Rattle.framing.specs.EncodeLaws.{wrote-says}
 use Rattle.framing.specs.Stuffing.{Ready}
 
+-- fed so many bytes, with this outcome and this state after them
 abbrev pub ended : State → ℕ → Outcome → Feed
 ended s n o = record { next = s; used = n; outcome = o }
 

@@ -24,6 +24,7 @@ pub data Outcome : Type 0 where
   -- a refusal's number
   refused : ℕ → Outcome
 
+-- the enum's cases in document 01's numbers: "fewer than 3 bytes, error 1; sum, error 2; declared length .., error 3", a bad escape 4, too long 5
 abbrev pub outcomeOf : Event → Outcome
 outcomeOf Quiet = quiet
 outcomeOf (Message c n) = message c n
@@ -44,6 +45,7 @@ closing body =
     (error 3 (getD body 1 0 ∷ (length body - 3) ∷ [])))
     (error 2 []))
 
+-- what a byte does to the base decoder
 abbrev pub Step : Type 0
 Step = Stepped Outcome
 
@@ -71,9 +73,11 @@ base =
 abbrev pub step : State → ℕ → Step
 step s b = unstuff.step base s b
 
+-- the machine's parts for the base decoder: what a byte does by phase
 abbrev pub byPhase : Phase → ℕ → List ℕ → ℕ → Step
 byPhase p n buf b = unstuff.byPhase base p n buf b
 
+-- and a byte that is collected
 abbrev pub collected : ℕ → List ℕ → ℕ → Step
 collected n buf b = unstuff.collected base n buf b
 
@@ -81,6 +85,7 @@ collected n buf b = unstuff.collected base n buf b
 abbrev pub outcomes : State → List ℕ → List Outcome
 outcomes s bytes = unstuff.outcomes base s bytes
 
+-- the state after bytes that are fed one after the other
 abbrev pub after : State → List ℕ → State
 after s bytes = unstuff.after base s bytes
 

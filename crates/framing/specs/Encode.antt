@@ -18,6 +18,7 @@ pub data Answer : Type 0 where
   -- the number of the refusal
   refused : ℕ → List ℕ → Answer
 
+-- the enum's cases: written, with count and doubled bytes, or refused with its number
 abbrev pub toldEncoded : Encoded → List ℕ → Answer
 toldEncoded (Written count doubled) out = wrote count doubled out
 toldEncoded (Refused number) out = refused number out
@@ -27,6 +28,7 @@ abbrev pub numberOf : Encoded → ℕ
 numberOf (Written count doubled) = 0
 numberOf (Refused number) = number
 
+-- how many bytes an answer says were written
 abbrev pub countOf : Encoded → ℕ
 countOf (Written count doubled) = count
 countOf (Refused number) = 0

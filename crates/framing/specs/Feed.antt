@@ -14,9 +14,11 @@ pub record Feed : Type 0 where
   pub used : ℕ
   pub outcome : Outcome
 
+-- what `push_bytes` returned and left in the buffer
 abbrev pub toldFed : Fed → List ℕ → Feed
 toldFed r buf = record { next = state (r .decoder .phase) (r .decoder .count) buf; used = r .used; outcome = outcomeOf (r .event) }
 
+-- no event and no refusal
 abbrev pub isQuiet : Outcome → Bool
 isQuiet quiet = true
 isQuiet (message c n) = false

@@ -17,6 +17,7 @@ pub record Gathered : Type 0 where
   pub buffer : List ℕ
   pub place : ℕ
 
+-- nothing more is taken
 abbrev pub stop : ℕ → List ℕ → Gathered
 stop n buf = record { count = n; buffer = buf; place = 0 }
 
@@ -38,5 +39,6 @@ gathered n buf (b ∷ c ∷ cs) =
 unfoldable pub gatheredFrom : ℕ → List ℕ → ℕ → List ℕ → Gathered
 gatheredFrom n buf i bytes = further i (gathered n buf (drop i bytes))
 
+-- what the private function that collects returned and left in the buffer
 abbrev pub toldRun : Run → List ℕ → Gathered
 toldRun r buf = record { count = r .count; buffer = buf; place = r .place }

@@ -52,6 +52,7 @@ pub record Open (s : State) (fed content : List ℕ) : Type 0 where
   pub ready : Ready base (after s before)
   pub latest : Last s fed (length before + 1)
 
+-- a DLE stands open inside a frame that holds this content
 pub record Inside (s : State) (fed content : List ℕ) : Type 0 where
   pub escaped : Escaped s fed
   pub open′ : Open s (escaped .prior) content
@@ -73,12 +74,14 @@ pub record Closes (s : State) (fed buf : List ℕ) (cmd m : ℕ) : Type 0 where
   pub fits : n ≤ 1024
   pub gives : closing (take n buf) ≡ message cmd m
 
+-- what a byte does to a traced state: the state after it is traced, and a message is told of a closed frame only
 pub record Goes (s : State) (fed : List ℕ) (b : ℕ) (t : Step) : Type 0 where
   pub small : t .next .count ≤ 1024
   pub room : 1024 ≤ length (t .next .buffer)
   pub traced : Traces s (t .next .phase) (t .next .count) (t .next .buffer) (fed ++ (b ∷ []))
   pub told : (cmd m : ℕ) → t .outcome ≡ message cmd m → Closes s (fed ++ (b ∷ [])) (t .next .buffer) cmd m
 
+-- no message is told
 abbrev pub Mute : Outcome → Type 0
 Mute o = (cmd m : ℕ) → o ≡ message cmd m → ⊥
 

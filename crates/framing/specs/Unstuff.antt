@@ -14,6 +14,7 @@ pub record State : Type 0 where
   pub count : ℕ
   pub buffer : List ℕ
 
+-- "with phase and count by value", and the lent buffer beside them
 abbrev pub state : Phase → ℕ → List ℕ → State
 state p n buf = record { phase = p; count = n; buffer = buf }
 
@@ -22,6 +23,7 @@ pub record Stepped (E : Type 0) : Type 0 where
   pub next : State
   pub outcome : E
 
+-- a step to this state, with what it gives
 abbrev pub to : {E : Type 0} → Phase → ℕ → List ℕ → E → Stepped E
 to p n buf o = record { next = record { phase = p; count = n; buffer = buf }; outcome = o }
 
@@ -75,6 +77,7 @@ unfoldable pub outcomes : {E : Type 0} → Machine E → State → List ℕ → 
 outcomes m s [] = []
 outcomes m s (b ∷ bs) = step m s b .outcome ∷ outcomes m (step m s b .next) bs
 
+-- the state after bytes that are fed one after the other
 unfoldable pub after : {E : Type 0} → Machine E → State → List ℕ → State
 after m s [] = s
 after m s (b ∷ bs) = after m (step m s b .next) bs

@@ -24,29 +24,37 @@ use Rattle.lists.specs.Matches.{matched}
 
 -- The two lists in parts
 
+-- "`Parts<T>`: two plain structs with flags": the supported list's struct as a list in parts
 abbrev pub supportedView : SupportedParts → Parts SupportedEntry
 supportedView p = record { sized = p .sized; size = p .size; places = p .entries }
 
+-- and back
 abbrev pub supportedOf : Parts SupportedEntry → SupportedParts
 supportedOf p = record { sized = p .sized; size = p .size; entries = p .places }
 
+-- the enabled list's struct as a list in parts
 abbrev pub enabledView : EnabledParts → Parts EnabledEntry
 enabledView p = record { sized = p .sized; size = p .size; places = p .entries }
 
+-- and back
 abbrev pub enabledOf : Parts EnabledEntry → EnabledParts
 enabledOf p = record { sized = p .sized; size = p .size; entries = p .places }
 
+-- "every place is filled": the flag of a supported place
 abbrev pub supportedFilled : SupportedEntry → Bool
 supportedFilled e = e .filled
 
+-- the flag of an enabled place
 abbrev pub enabledFilled : EnabledEntry → Bool
 enabledFilled e = e .filled
 
 -- Entries
 
+-- "A new size starts blank": a supported place with nothing in it
 abbrev pub blankSupported : SupportedEntry
 blankSupported = record { filled = false; index = 0; pgn = 0 }
 
+-- an enabled place with nothing in it
 abbrev pub blankEnabled : EnabledEntry
 blankEnabled = record { filled = false; index = 0 }
 
@@ -60,6 +68,7 @@ enabledAt d at = record { filled = true; index = getD d at 0 }
 
 -- Nothing in hand
 
+-- before any reply: no size is told, no place is filled, no proprietary PGN is known
 abbrev pub noParts : F2List
 noParts =
     record {
@@ -90,6 +99,7 @@ addSupported d p =
 abbrev pub mapEnd : List ℕ → ℕ → ℕ
 mapEnd d at = at + 1 + getD d at 0
 
+-- "that many bytes": the bytes of the map whose length byte stands at a place
 abbrev pub mapAt : List ℕ → ℕ → List ℕ
 mapAt d at = take (getD d at 0) (drop (at + 1) d)
 
@@ -112,6 +122,7 @@ proprietaryAdded d p =
 unfoldable pub enabledAdded : List ℕ → EnabledParts → EnabledParts
 enabledAdded d p = pick (leb 8 (length d)) (enabledOf (partAdded blankEnabled (enabledAt d) d 5 (enabledView p))) p
 
+-- a reply 4F, by its variant: 0x1102 or 0x1103; "Another variant .. changes nothing."
 unfoldable pub addEnabled : List ℕ → F2List → F2List
 addEnabled d p =
     record {
@@ -132,6 +143,7 @@ wholeList p =
     matched (below (supportedView (p .supported))) (below (enabledView (p .enabled)))
     ++ take (p .proprietary .list .n) (p .proprietary .list .pgns)
 
+-- the list once all three are in hand; before that there is none
 unfoldable pub pgnsOf : F2List → Option (List ℕ)
 pgnsOf p = pick (allWhole p) (some (wholeList p)) none
 
@@ -141,16 +153,19 @@ formed p = leb (p .proprietary .list .n) 512
 
 -- What `pgns` answers, with the lent list as it is left: how many PGNs there are, that there is no list yet, or a refusal's number
 
+-- what `pgns` answers: a list of so many PGNs, parts only, or a refusal, each with the lent list
 pub data Answer : Type 0 where
   list : ℕ → List ℕ → Answer
   part : List ℕ → Answer
   refused : ℕ → List ℕ → Answer
 
+-- the enum's cases
 abbrev pub toldRead : F2Read → List ℕ → Answer
 toldRead (Whole n) out = list n out
 toldRead Partial out = part out
 toldRead (Refused number) out = refused number out
 
+-- the answer of a call that is not refused: "a lent slice and a count; bytes after the count are kept"
 abbrev pub told : Option (List ℕ) → List ℕ → Answer
 told none out = part out
 told (some l) out = list (length l) (written l out)

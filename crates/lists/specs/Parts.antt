@@ -41,6 +41,7 @@ partAdded blank entryAt d at p =
 abbrev pub below : {E : Type 0} → Parts E → List E
 below p = take (p .size) (take 255 (p .places))
 
+-- "every place is filled": a test that all pass
 unfoldable pub every : {E : Type 0} → (E → Bool) → List E → Bool
 every f [] = true
 every f (x ∷ xs) = f x && every f xs

@@ -14,6 +14,7 @@ pub record Called : Type 0 where
   pub bytes : List ℕ
   pub answer : List ℕ
 
+-- a call that returned this number and left these bytes and this answer
 abbrev pub called : ℕ → List ℕ → List ℕ → Called
 called r bytes answer = record { result = r; bytes = bytes; answer = answer }
 
@@ -22,6 +23,7 @@ pub record Reply : Type 0 where
   pub numbers : List ℕ
   pub bytes : List ℕ
 
+-- these numbers, and these bytes
 abbrev pub reply : List ℕ → List ℕ → Reply
 reply numbers bytes = record { numbers = numbers; bytes = bytes }
 

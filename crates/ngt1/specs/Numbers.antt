@@ -17,12 +17,14 @@ use Rattle.ngt1.specs.Convention.{Called, Reply, reply, answering}
 abbrev pub phaseOf : ℕ → Phase
 phaseOf n = pick (eqb n 0) Idle (pick (eqb n 1) InFrame (pick (eqb n 2) EscapeOutside EscapeInside))
 
+-- a phase's number
 abbrev pub numberOf : Phase → ℕ
 numberOf Idle = 0
 numberOf InFrame = 1
 numberOf EscapeOutside = 2
 numberOf EscapeInside = 3
 
+-- an event in three numbers
 abbrev pub tells : ℕ → ℕ → ℕ → Told
 tells kind first second = record { kind = kind; first = first; second = second }
 

@@ -35,6 +35,7 @@ numbersIn n =
           };
     }
 
+-- the numbers as a call stores them
 abbrev pub numbersAs : Numbers → List ℕ
 numbersAs x =
     phaseOf (x .state)
@@ -65,15 +66,18 @@ unfoldable pub answers : List ℕ → Arrays → List ℕ → (Sync → Told) �
 answers n a out go =
     pick (ltb 7 (getD n 0 0)) (record { number = 16; count = 0; sync = syncOf (numbersIn n) a; out = out }) (go (syncOf (numbersIn n) a))
 
+-- `ngt1_session_message`: 100 while Format 2 is read (decision 66), else what the session's own `message` gives
 abbrev pub hears : List ℕ → Arrays → ℕ → List ℕ → List ℕ → Told
 hears n a t m out =
     answers n a out
     (λ s.
     pick (readsF2 (s .state)) (record { number = 100; count = 0; sync = s; out = out }) (called s (message t m (length out)) out))
 
+-- what `ngt1_session_part` leaves: the same with the parts
 abbrev pub toldPartOn : PartAnswer → List ℕ → (F2List → Arrays) → List ℕ → Told
 toldPartOn r n a out = record { number = r .number; count = r .count; sync = syncOf (numbersIn n) (a (r .parts)); out = out }
 
+-- `ngt1_session_part`: 100 unless Format 2 is read, else what the session's own `part` gives
 abbrev pub hearsPart : List ℕ → Arrays → ℕ → List ℕ → List ℕ → Told
 hearsPart n a t m out =
     answers n a out
@@ -97,6 +101,7 @@ ignoresOn n t m room =
 abbrev pub renewedOn : ℕ → List ℕ → Arrays → Begun
 renewedOn r n a = record { number = r; sync = syncOf (numbersIn n) a }
 
+-- 16 for a phase over 7, and nothing changes; else the session's own answer
 unfoldable pub renews : List ℕ → Arrays → Begun → Begun
 renews n a b = pick (ltb 7 (getD n 0 0)) (record { number = 16; sync = syncOf (numbersIn n) a }) b
 
@@ -107,6 +112,7 @@ lackNumber (says fromWhole) = 1
 lackNumber (says fromPart) = 2
 lackNumber (refused k) = k
 
+-- 16 for a phase over 7; else what the session's own `lacks` says, in numbers
 unfoldable pub asks : List ℕ → ℕ → ℕ
 asks n k = pick (ltb 7 (getD n 0 0)) 16 k
 

@@ -13,6 +13,7 @@ use Rattle.tx_list.specs.declared.State.the-variants.{AwaitStartup, ReadAt, Rea
 abbrev pub isSet : ℕ → Bool
 isSet n = not (eqb n 0)
 
+-- a flag as it is stored
 abbrev pub one : Bool → ℕ
 one true = 1
 one false = 0
@@ -25,6 +26,7 @@ stateOf p n =
     (pick (eqb p 2) (ReadingF1 n)
     (pick (eqb p 3) (ReadingF2 n) (pick (eqb p 4) Enabling (pick (eqb p 5) Committing (pick (eqb p 6) Activating Done))))))
 
+-- a phase's number
 abbrev pub phaseOf : State → ℕ
 phaseOf AwaitStartup = 0
 phaseOf ReadAt = 1
@@ -35,6 +37,7 @@ phaseOf Committing = 5
 phaseOf Activating = 6
 phaseOf Done = 7
 
+-- a phase's attempt, 0 where it has none
 abbrev pub attemptOf : State → ℕ
 attemptOf AwaitStartup = 0
 attemptOf ReadAt = 0

@@ -38,6 +38,7 @@ pub record Arrays : Type 0 where
   pub refused : List ℕ
   pub f2 : F2List
 
+-- these arrays
 abbrev pub lent : List ℕ → List ℕ → List ℕ → List ℕ → List ℕ → List ℕ → List ℕ → List ℕ → F2List → Arrays
 lent wanted owed fresh list known saved present refused f2 =
     record {
@@ -72,6 +73,7 @@ counted n f =
       proprietary = record { told = f .proprietary .told; list = record { pgns = f .proprietary .list .pgns; n = n } };
     }
 
+-- the parts that the session holds: none where `blank` is set
 abbrev pub partsOf : Totals → F2List → F2List
 partsOf t f = pick (t .blank) noParts (counted (t .counts .proprietary) f)
 
@@ -113,6 +115,7 @@ numbersOf s =
           };
     }
 
+-- the arrays of a session
 abbrev pub arraysOf : Sync → Arrays
 arraysOf s =
     lent (s .wanted .items) (s .owed .items) (s .fresh .items) (s .list .items) (s .known .items) (s .saved .items) (s .present .items)
@@ -162,9 +165,11 @@ awaiting t st time = record { state = st; totals = retotal t (t .counts) (time +
 abbrev pub uncounted : Counts → Counts
 uncounted c = recount c (c .owed) (c .fresh) (c .list) 0 (c .known)
 
+-- the counts that are tested
 abbrev pub seen : Totals → Counts
 seen t = pick (t .blank) (uncounted (t .counts)) (t .counts)
 
+-- the test itself, at the session's limits
 unfoldable pub soundFor : Numbers → Bool
 soundFor x = soundAt helm (seen (x .totals)) (x .state)
 
@@ -172,6 +177,7 @@ soundFor x = soundAt helm (seen (x .totals)) (x .state)
 abbrev pub toldStep : Step → Arrays → Stepped
 toldStep r a = record { sent = commandsOf (r .sent); sync = syncOf (r .numbers) a }
 
+-- the same of a part, which hands the parts of Format 2 back
 abbrev pub toldPart : PartStep → (F2List → Arrays) → Stepped
 toldPart r a = record { sent = commandsOf (r .sent); sync = syncOf (r .numbers) (a (r .f2)) }
 
@@ -179,9 +185,11 @@ toldPart r a = record { sent = commandsOf (r .sent); sync = syncOf (r .numbers) 
 abbrev pub toldAnswer : Answered → Arrays → List ℕ → Told
 toldAnswer r a out = record { number = r .number; count = r .count; sync = syncOf (r .numbers) a; out = out }
 
+-- what `part` leaves: the same with the parts of Format 2
 abbrev pub toldParted : Parted → (F2List → Arrays) → List ℕ → Told
 toldParted r a out = record { number = r .number; count = r .count; sync = syncOf (r .numbers) (a (r .f2)); out = out }
 
+-- what begin, restart, setting firmware and abandoning leave
 abbrev pub toldRenewed : Renewed → Arrays → Begun
 toldRenewed r a = record { number = r .number; sync = syncOf (r .numbers) a }
 
@@ -196,6 +204,7 @@ waitsIn Committing = true
 waitsIn Activating = true
 waitsIn Done = false
 
+-- a tick at this time acts
 unfoldable pub dueAt : Numbers → ℕ → Bool
 dueAt x t = leb (x .totals .deadline) t && waitsIn (x .state)
 
@@ -215,6 +224,7 @@ mindsIn Done m = false
 unfoldable pub idleAt : Numbers → ℕ → ℕ → Bool
 idleAt x t room = soundFor x && (leb t 18446744073709541615 && (leb 32 room && not (dueAt x t)))
 
+-- a message is taken and does nothing
 unfoldable pub ignoredAt : Numbers → ℕ → List ℕ → ℕ → Bool
 ignoredAt x t m room =
     soundFor x && (leb t 18446744073709541615 && (leb (length m) 255 && (leb 32 room && not (mindsIn (x .state) m))))
@@ -242,6 +252,7 @@ readsF2 Committing = false
 readsF2 Activating = false
 readsF2 Done = false
 
+-- the message is for the other function: 100, and nothing changes
 abbrev pub notHere : Numbers → Arrays → List ℕ → Told
 notHere x a out = refusedWith 100 x a out
 

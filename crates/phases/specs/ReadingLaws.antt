@@ -114,6 +114,7 @@ owed-by-length s l =
 abbrev pub known′ : Sync → Known → Flat F2List ℕ
 known′ s kn = withKnown s (kn .read) (kn .complete) (kn .list)
 
+-- what comes of a list that is read, with this known list
 abbrev pub asked : Sync → Known → List ℕ → ℕ → Stepped
 asked s kn l t = stepOf (asks kind (known′ s kn) (owing kind s l) t)
 

@@ -8,6 +8,7 @@ use Rattle.phases.specs.Sync.{Sync}
 abbrev pub helm : Limits
 helm = record { wanted = 64; list = 1024; known = 1344; two = true }
 
+-- the counts of a session in arrays
 abbrev pub countsOf : Sync → Counts
 countsOf h =
     record {

@@ -31,6 +31,7 @@ use Rattle.phases.specs.declared.Sent.the-variants.{Nothing, ReadF1, Rea
 abbrev pub Sync : Type 0
 Sync = Flat F2List ℕ
 
+-- a session under its own names
 abbrev pub same : Sync → Sync
 same s = s
 
@@ -40,6 +41,7 @@ pub record Learned : Type 0 where
   pub present : Buf ℕ
   pub refused : Buf ℕ
 
+-- the record that a session holds
 abbrev pub learnedIn : Sync → Learned
 learnedIn s = record { saved = s .saved; present = s .present; refused = s .refused }
 
@@ -49,6 +51,7 @@ pub record Known : Type 0 where
   pub complete : Bool
   pub list : Buf ℕ
 
+-- the known list that a session holds
 abbrev pub knownIn : Sync → Known
 knownIn s = record { read = s .isKnown; complete = s .complete; list = s .known }
 
@@ -83,6 +86,7 @@ payloadOf (enable p) = commands.enable p
 payloadOf commit = 0x01 ∷ []
 payloadOf activate = 0x4B ∷ []
 
+-- a command on the wire
 unfoldable pub frameOf : Command → List ℕ
 frameOf c = frame 0xA1 (payloadOf c)
 
@@ -90,6 +94,7 @@ frameOf c = frame 0xA1 (payloadOf c)
 abbrev pub clear : Sync
 clear = clearFlat kind noParts 0
 
+-- a session in arrays and counts, as a store of the model's (tx_list/specs/Stored)
 abbrev pub store : Store kind
 store = storeBy kind Sync same same clear frameOf
 
@@ -97,17 +102,20 @@ store = storeBy kind Sync same same clear frameOf
 abbrev pub recordOf : Learned → Record ℕ
 recordOf r = record { saved = live (r .saved); present = live (r .present); refused = live (r .refused) }
 
+-- "a record list over 192, at begin or restart" is 12: none is
 abbrev pub recordFits : Learned → Bool
 recordFits r = (leb (r .saved .n) 192 && leb (r .present .n) 192) && leb (r .refused .n) 192
 
 -- What a call leaves: the number, the count of bytes written, the session, and the lent output
 
+-- what message and tick leave
 pub record Told : Type 0 where
   pub number : ℕ
   pub count : ℕ
   pub sync : Sync
   pub out : List ℕ
 
+-- "a lent slice and a count; bytes after the count are kept": the bytes of an answer at the start of the output
 abbrev pub gave : Answer kind store → List ℕ → Told
 gave a out = record { number = a .no; count = length (a .bytes); sync = a .kept; out = written (a .bytes) out }
 
@@ -120,6 +128,7 @@ pub record Begun : Type 0 where
   pub number : ℕ
   pub sync : Sync
 
+-- an answer without bytes
 abbrev pub begun : Answer kind store → Begun
 begun a = record { number = a .no; sync = a .kept }
 
@@ -127,12 +136,15 @@ begun a = record { number = a .no; sync = a .kept }
 abbrev pub setTo : Sync → ℕ → Begun
 setTo s v = begun (stored.called kind store s (firmware v))
 
+-- THE CONTRACT of restart
 abbrev pub restarted : Sync → Begun
 restarted s = begun (opens kind store (again s))
 
+-- THE CONTRACT of abandon
 abbrev pub abandoned : Sync → Begun
 abandoned s = begun (stored.abandoned kind store s)
 
+-- THE CONTRACT of begin
 abbrev pub begunWith : List ℕ → Record ℕ → Begun
 begunWith w r = begun (opens kind store (new w r))
 
@@ -155,19 +167,23 @@ doneIn Committing = false
 doneIn Activating = false
 doneIn Done = true
 
+-- the known list as the model has it
 abbrev pub knownOf : Known → model.Known
 knownOf k = record { isRead = k .read; isWhole = k .complete; pgns = live (k .list) }
 
+-- what `lacks` says, or the refusal's number
 pub data Said : Type 0 where
   says : model.Lacks → Said
   refused : ℕ → Said
 
+-- the enum's cases: "nothing, lacking from a whole list (Format 2), or lacking from a partial one"
 abbrev pub toldLacks : Lacks → Said
 toldLacks SaysNothing = says model.silent
 toldLacks Whole = says model.fromWhole
 toldLacks Partial = says model.fromPart
 toldLacks (Refused n) = refused n
 
+-- THE CONTRACT of lacks: "`lacks`, ..: 16", else what the model says of the known list
 abbrev pub lackOf : Sync → ℕ → Said
 lackOf s p = pick (sound s) (says (model.lacks (absFlat s .known) p)) (refused 16)
 
@@ -177,6 +193,7 @@ lackOf s p = pick (sound s) (says (model.lacks (absFlat s .known) p)) (refused 1
 abbrev pub overList : ℕ → List ℕ → Bool
 overList n m = ltb 1024 (n + length (added (f1Of m)))
 
+-- the commands of a call, by the code's enum
 abbrev pub commandsOf : Sent → List Command
 commandsOf Nothing = []
 commandsOf ReadF1 = read1 ∷ []
@@ -185,16 +202,20 @@ commandsOf (Enable p) = enable p ∷ []
 commandsOf Commit = commit ∷ []
 commandsOf Activate = activate ∷ []
 
+-- their bytes on the wire, end to end
 abbrev pub bytesOf : Sent → List ℕ
 bytesOf x = stored.wire kind store (commandsOf x)
 
+-- the commands that a step sends, and the session that it leaves
 pub record Stepped : Type 0 where
   pub sent : List Command
   pub sync : Sync
 
+-- a step of tx_list/specs/Moves, without the list that it hands out (only a strict session does)
 abbrev pub stepOf : Moved F2List ℕ → Stepped
 stepOf x = record { sent = x .sent; sync = x .flat }
 
+-- what a call leaves that made this step
 abbrev pub wroteStep : Stepped → List ℕ → Told
 wroteStep x out =
     record {

@@ -78,9 +78,11 @@ formed-kept p s d h =
 abbrev pub notPlainAll : List ℕ → Bool
 notPlainAll d = leb 138 (length d) && not (plainAll d)
 
+-- one: "Sequences 2 to 5 with at least 32"
 abbrev pub notPlainPart : ℕ → List ℕ → Bool
 notPlainPart s d = leb 2 s && leb s 5 && leb textWidth (length d) && not (plainAt d 0)
 
+-- by the sequence: "byte 80 to FE before a text's end"
 abbrev pub notPlain : ℕ → List ℕ → Bool
 notPlain s d = pick (eqb s 6) (notPlainAll d) (notPlainPart s d)
 

@@ -15,6 +15,7 @@ pub data Read : Type 0 where
   found : Option ℕ → Read
   refusal : ℕ → Read
 
+-- the enum's cases
 abbrev pub toldRead : FirmwareRead → Read
 toldRead (Version v) = found (some v)
 toldRead Unknown = found none

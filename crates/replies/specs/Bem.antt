@@ -58,6 +58,7 @@ responds h d =
       content = d;
     }
 
+-- the struct with the reference, told by its fields and by the bytes that it refers to
 abbrev pub toldResponse : BemResponse → Response
 toldResponse r =
     record {

@@ -42,6 +42,7 @@ pub data Found : Type 0 where
   none : Found
   found : Mode → Found
 
+-- the enum's cases: a mode, or "there is none"
 abbrev pub toldFound : ModeFound → Found
 toldFound (OneMode m) = found (toldMode m)
 toldFound Nothing = none

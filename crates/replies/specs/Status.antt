@@ -7,6 +7,7 @@ use Rattle.field.specs.Pick.{pick}
 use Rattle.field.specs.Fields.{field}
 use Rattle.replies.specs.declared.startup.Startup.{Startup}
 
+-- a refusal's number or 0, and two numbers: "16 and 32 bits"
 abbrev pub status : ℕ → ℕ → ℕ → Startup
 status number version reset = record { number = number; version = version; status = reset }
 

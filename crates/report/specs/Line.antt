@@ -21,6 +21,7 @@ abbrev pub lookup : List ReplyName → ℕ → ℕ
 lookup [] b = 0
 lookup (e ∷ es) b = pick (eqb (e .reply) b) (e .name) (lookup es b)
 
+-- the number of a reply byte's name
 unfoldable pub nameOf : ℕ → ℕ
 nameOf b = lookup table b
 

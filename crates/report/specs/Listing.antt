@@ -33,6 +33,7 @@ pub record Turn : Type 0 where
 abbrev pub stateOf : Place → List ℕ → State
 stateOf p buf = state (p .decoder .phase) (p .decoder .count) buf
 
+-- what a call returned and left in the buffer and in the output
 abbrev pub toldListed : Listed → List ℕ → List ℕ → Turn
 toldListed r buf out =
     record {
@@ -57,6 +58,7 @@ fedLine n at f = lineOf n ((at + (f .used - 1)) % 2 ^ 64) (f .outcome) (payloadO
 abbrev pub refusalBy : ℕ → ℕ → ℕ → ℕ
 refusalBy count buf out = pick (ltb 1024 count) 16 (pick (ltb buf 1024) 7 (pick (ltb out 128) 7 0))
 
+-- the same by a decoder and an output
 abbrev pub refusalOf : State → List ℕ → ℕ
 refusalOf s out = refusalBy (s .count) (length (s .buffer)) (length out)
 

@@ -26,5 +26,6 @@ unfoldable pub valueFrom : ℕ → List ℕ → ℕ
 valueFrom m [] = m
 valueFrom m (d ∷ ds) = valueFrom (10 * m + (d - 48)) ds
 
+-- the number that decimal digits are read as
 abbrev pub value : List ℕ → ℕ
 value ds = valueFrom 0 ds

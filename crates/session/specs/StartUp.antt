@@ -25,6 +25,7 @@ pub record StartedUp (w : List ℕ) (old : Record ℕ) (g : Gateway) (last : Syn
   pub done : doneOf last ≡ record { number = 0; done = true }
   pub served : (p : ℕ) → has p w ≡ true → has p (old .refused) ≡ false → lackOf last p ≡ says silent
 
+-- from a begin and from a restart that are not refused, with any gateway that helps
 pub record StartUp : Type 0 where
   pub begun :
       (w : List ℕ) (old : Record ℕ) (r : Begun)

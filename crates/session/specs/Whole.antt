@@ -17,35 +17,45 @@ use Rattle.session.specs.declared.Begun.{Begun}
 
 -- arrays with counts
 
+-- a list of the struct as a list in an array, and back: of 64 places
 abbrev pub of64 : List64 → Buf ℕ
 of64 l = record { items = l .pgns; n = l .n }
 
+-- back
 abbrev pub to64 : Buf ℕ → List64
 to64 b = record { pgns = b .items; n = b .n }
 
+-- of 256 places
 abbrev pub of256 : List256 → Buf ℕ
 of256 l = record { items = l .pgns; n = l .n }
 
+-- back
 abbrev pub to256 : Buf ℕ → List256
 to256 b = record { pgns = b .items; n = b .n }
 
+-- of 1,024 places
 abbrev pub of1024 : List1024 → Buf ℕ
 of1024 l = record { items = l .pgns; n = l .n }
 
+-- back
 abbrev pub to1024 : Buf ℕ → List1024
 to1024 b = record { pgns = b .items; n = b .n }
 
+-- of 1,344 places
 abbrev pub of1344 : List1344 → Buf ℕ
 of1344 l = record { items = l .pgns; n = l .n }
 
+-- back
 abbrev pub to1344 : Buf ℕ → List1344
 to1344 b = record { pgns = b .items; n = b .n }
 
+-- the record by value: "`Arc<Mutex<TxListRecord>>`: by value in the session"
 abbrev pub learnedOf : TxListRecord → Learned
 learnedOf r = record { saved = of256 (r .saved); present = of256 (r .present); refused = of256 (r .refused) }
 
 -- the struct's fields under the other names; nothing else changes, and nothing is left out (`of-to`, `to-of` in WholeLaws)
 
+-- a phase and what is held beside it
 abbrev pub ofHeld : State → Held → Sync
 ofHeld st h =
     record {
@@ -66,9 +76,11 @@ ofHeld st h =
       version = h .firmware .version;
     }
 
+-- THE SESSION that the struct holds
 abbrev pub ofSync : TxListSync → Sync
 ofSync s = ofHeld (s .state) (s .held)
 
+-- the struct that holds a session
 abbrev pub toSync : Sync → TxListSync
 toSync h =
     record {
@@ -91,5 +103,6 @@ toSync h =
 abbrev pub toldCalled : Called → List ℕ → Told
 toldCalled r out = record { number = r .number; count = r .count; sync = ofSync (r .sync); out = out }
 
+-- what begin, restart, setting firmware and abandoning leave
 abbrev pub toldBegun : Begun → Renewal
 toldBegun r = record { number = r .number; sync = ofSync (r .sync) }

@@ -21,6 +21,7 @@ textWidth = 32
 abbrev pub textOf : List ℕ → Text
 textOf s = record { bytes = written s (replicate textMax 0); count = length s }
 
+-- the text of no bytes
 abbrev pub noText : Text
 noText = textOf []
 

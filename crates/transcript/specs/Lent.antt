@@ -13,6 +13,7 @@ pub record Lent : Type 0 where
   pub area : Area
   pub text : List ℕ
 
+-- an area, and the text with it
 abbrev pub lent : Area → List ℕ → Lent
 lent a text = record { area = a; text = text }
 

@@ -15,6 +15,7 @@ use Rattle.tx_list.specs.Observer.{Stage, listRead, wholeRead, answers, 
 unfoldable pub toPresent : ℕ → List ℕ → List ℕ
 toPresent p m = only (isThere (answerOf m)) p
 
+-- the same in the refused list, by what the kind keeps of a PGN and its answer
 unfoldable pub toRefused : {E : Type 0} → (ℕ → List ℕ → E) → ℕ → List ℕ → List E
 toRefused entry p m = only (isDenied (answerOf m)) (entry p m)
 
@@ -78,18 +79,22 @@ pub data Opening (P E : Type 0) : Type 0 where
   new : List ℕ → Record E → Opening P E
   again : Session P E → Opening P E
 
+-- "from a session just begun or restarted"
 unfoldable pub open-with : (k : Kind) → Opening (k .Parts) (k .Entry) → Result (k .Parts) (k .Entry)
 open-with k (new w r) = begin k w r
 open-with k (again s) = restart k s
 
+-- what is wanted at that begin or restart
 unfoldable pub wantedOf : {P E : Type 0} → Opening P E → List ℕ
 wantedOf (new w r) = w
 wantedOf (again s) = s .wanted
 
+-- "The old lists are the record's at that begin or restart"
 unfoldable pub oldOf : {P E : Type 0} → Opening P E → Record E
 oldOf (new w r) = r
 oldOf (again s) = s .rec
 
+-- DEMAND 3 on plain lists, of every kind of session: from any opening that is not refused, after any list of calls
 unfoldable pub Demand3 : Kind → Type 0
 Demand3 k =
     (o : Opening (k .Parts) (k .Entry)) (s : Session (k .Parts) (k .Entry))

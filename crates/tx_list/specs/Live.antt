@@ -18,18 +18,22 @@ pub record Said : Type 0 where
   pub bytes : List ℕ
   pub room : ℕ
 
+-- a message of Format 1 that adds PGNs
 unfoldable pub isPage : F1 → Bool
 isPage (adds l) = true
 isPage ends = false
 isPage neither = false
 
+-- the call that gives a message to the session
 abbrev pub said : Said → Call
 said x = message (x .time) (x .bytes) (x .room)
 
+-- one after the other
 abbrev pub saids : List Said → List Call
 saids [] = []
 saids (x ∷ xs) = said x ∷ saids xs
 
+-- the bytes of messages
 abbrev pub texts : List Said → List (List ℕ)
 texts [] = []
 texts (x ∷ xs) = x .bytes ∷ texts xs
@@ -39,6 +43,7 @@ abbrev pub listed : List Said → List ℕ
 listed [] = []
 listed (x ∷ xs) = added (f1Of (x .bytes)) ++ listed xs
 
+-- all of them are so
 abbrev pub Each : (Said → Type 0) → List Said → Type 0
 Each P [] = Unit {0}
 Each P (x ∷ xs) = P x × Each P xs
@@ -63,6 +68,7 @@ pub record Gateway : Type 0 where
   pub committed : Said
   pub activated : Said
 
+-- the firmware is set where the gateway names one
 abbrev pub setting : Option ℕ → List Call
 setting none = []
 setting (some v) = firmware v ∷ []
@@ -77,10 +83,12 @@ others (enable p ∷ cs) = others cs
 others (commit ∷ cs) = commit ∷ others cs
 others (activate ∷ cs) = activate ∷ others cs
 
+-- how a list is asked for: "40 then 4F (Format 2)", "49 (Format 1)"
 abbrev pub asksList : Bool → List Command
 asksList true = read40 ∷ read4F ∷ []
 asksList false = read1 ∷ []
 
+-- "fresh ones lead to commit, then activate"
 abbrev pub closes : List ℕ → List Command
 closes [] = []
 closes (p ∷ ps) = commit ∷ activate ∷ []
@@ -94,6 +102,7 @@ module _ (k : Kind) (w : List ℕ) (old : Record (k .Entry)) (g : Gateway) where
   abbrev pub owes : List ℕ
   owes = owed (k .pgnOf) w (g .list) old
 
+  -- those that are saved in the end: "any other error 0 is fresh"
   abbrev pub fresh : List ℕ
   fresh = brought (toSaved old) (texts (g .replies)) owes
 
@@ -102,6 +111,7 @@ module _ (k : Kind) (w : List ℕ) (old : Record (k .Entry)) (g : Gateway) where
   ending [] = []
   ending (p ∷ ps) = said (g .committed) ∷ said (g .activated) ∷ []
 
+  -- the calls of a start-up: the firmware, the mode, the tick after the wait, the list, an answer to each enable command, commit and activate
   abbrev pub startUp : List Call
   startUp =
       setting (g .version)
@@ -122,10 +132,12 @@ module _ (k : Kind) (w : List ℕ) (old : Record (k .Entry)) (g : Gateway) where
   Unwhole p (x ∷ xs) =
       Fair x × (f2Of (x .bytes) ≡ part) × (k .whole (k .put (x .bytes) p) ≡ none) × Unwhole (k .put (x .bytes) p) xs
 
+  -- the list is told in the format that it is asked for
   abbrev pub Tells : Bool → Type 0
   Tells false = TellsFirst
   Tells true = Unwhole (k .blank) (g .pages)
 
+  -- A GATEWAY THAT HELPS: it answers the mode, tells its list and answers each command well, in time and within the limits of 13, 6 and 7
   pub record Helpful : Type 0 where
     pub mode-fair : Fair (g .mode)
     pub mode-is : isMode (g .mode .bytes) ≡ true
@@ -170,6 +182,7 @@ module _ (k : Kind) (w : List ℕ) (old : Record (k .Entry)) (g : Gateway) where
 
 -- Calls of no interest, which may come in between: ticks that are not due, messages that the session does not wait for, refused calls.
 module _ (k : Kind) where
+  -- a message that the phase does not wait for
   abbrev pub Dull : Phase (k .Parts) → List ℕ → Type 0
   Dull (reading await) m = isMode m ≡ false
   Dull (reading waits) m = Unit {0}
@@ -180,6 +193,7 @@ module _ (k : Kind) where
   Dull (activating fr) m = ackOf (k .strict) 0x4B m ≡ nothing
   Dull done m = Unit {0}
 
+  -- a tick before the due time
   abbrev pub NotDue : Phase (k .Parts) → ℕ → ℕ → Type 0
   NotDue (reading await) d t = Unit {0}
   NotDue (reading waits) d t = t < d
@@ -190,6 +204,7 @@ module _ (k : Kind) where
   NotDue (activating fr) d t = t < d
   NotDue done d t = Unit {0}
 
+  -- a call that changes nothing
   abbrev pub Idle : Session (k .Parts) (k .Entry) → Call → Type 0
   Idle s (message t m room) = Dull (s .phase) m
   Idle s (tick t room) = NotDue (s .phase) (s .deadline) t
@@ -213,6 +228,7 @@ module _ (k : Kind) where
         → Mixed r cs calls
         → Mixed r cs (c ∷ calls)
 
+-- THE START-UP ENDS WELL, for every kind of session: from any opening that is not refused, with any gateway that helps
 unfoldable pub Live : Kind → Type 0
 Live k =
     (o : Opening (k .Parts) (k .Entry)) (s : Session (k .Parts) (k .Entry))

@@ -29,6 +29,7 @@ live b = take (b .n) (b .items)
 abbrev pub fill : {A : Type 0} → Buf A → List A → Buf A
 fill b xs = record { items = sets (b .items) 0 xs; n = length xs }
 
+-- all that a session holds in memory: the phase, its lists in arrays, flags and numbers
 pub record Flat (P E : Type 0) : Type 0 where
   pub state : State
   pub wanted : Buf ℕ
@@ -57,10 +58,12 @@ phaseIn Committing h = committing (live (h .fresh))
 phaseIn Activating h = activating (live (h .fresh))
 phaseIn Done h = done
 
+-- "older or unknown": a firmware, or that none was told
 abbrev pub firmwareBy : Bool → ℕ → Option ℕ
 firmwareBy true v = some v
 firmwareBy false v = none
 
+-- the session read from memory: of each array the entries that count
 abbrev pub absFlat : {P E : Type 0} → Flat P E → Session P E
 absFlat h =
     record {
@@ -79,6 +82,7 @@ readingAs waits = ReadAt
 readingAs (second a p) = ReadingF2 a
 readingAs (first a l) = ReadingF1 a
 
+-- the phase enum of a phase
 abbrev pub stateAs : {P : Type 0} → model.Phase P → State
 stateAs (reading r) = readingAs r
 stateAs (enabling todo fresh) = Enabling
@@ -86,6 +90,7 @@ stateAs (committing fresh) = Committing
 stateAs (activating fresh) = Activating
 stateAs done = Done
 
+-- the array of the PGNs owed: written while enabling
 abbrev pub owedAs : {P : Type 0} → model.Phase P → Buf ℕ → Buf ℕ
 owedAs (reading r) b = b
 owedAs (enabling todo fresh) b = fill b todo
@@ -93,6 +98,7 @@ owedAs (committing fresh) b = b
 owedAs (activating fresh) b = b
 owedAs done b = b
 
+-- the array of the fresh ones: written from enabling to activating
 abbrev pub freshAs : {P : Type 0} → model.Phase P → Buf ℕ → Buf ℕ
 freshAs (reading r) b = b
 freshAs (enabling todo fresh) b = fill b fresh
@@ -100,12 +106,14 @@ freshAs (committing fresh) b = fill b fresh
 freshAs (activating fresh) b = fill b fresh
 freshAs done b = b
 
+-- the array of the list read so far: written in Format 1
 abbrev pub readAs : {P : Type 0} → Reading P → Buf ℕ → Buf ℕ
 readAs await b = b
 readAs waits b = b
 readAs (second a p) b = b
 readAs (first a l) b = fill b l
 
+-- the same in any phase
 abbrev pub listAs : {P : Type 0} → model.Phase P → Buf ℕ → Buf ℕ
 listAs (reading r) b = readAs r b
 listAs (enabling todo fresh) b = b
@@ -113,12 +121,14 @@ listAs (committing fresh) b = b
 listAs (activating fresh) b = b
 listAs done b = b
 
+-- the parts of Format 2: written while it is read
 abbrev pub readPartsAs : {P : Type 0} → Reading P → P → P
 readPartsAs await b = b
 readPartsAs waits b = b
 readPartsAs (second a p) b = p
 readPartsAs (first a l) b = b
 
+-- the same in any phase
 abbrev pub partsAs : {P : Type 0} → model.Phase P → P → P
 partsAs (reading r) b = readPartsAs r b
 partsAs (enabling todo fresh) b = b
@@ -126,14 +136,17 @@ partsAs (committing fresh) b = b
 partsAs (activating fresh) b = b
 partsAs done b = b
 
+-- whether a firmware was told
 abbrev pub toldAs : Option ℕ → Bool
 toldAs none = false
 toldAs (some v) = true
 
+-- its version; where none was told what stood there stays
 abbrev pub versionAs : Option ℕ → ℕ → ℕ
 versionAs none b = b
 versionAs (some v) b = v
 
+-- all of it, by the phase
 abbrev pub flatAs : {P E : Type 0} → Flat P E → Session P E → model.Phase P → Flat P E
 flatAs h s ph =
     record {
@@ -154,10 +167,12 @@ flatAs h s ph =
       version = versionAs (s .firmware) (h .version);
     }
 
+-- a session written over what memory holds
 abbrev pub writeFlat : {P E : Type 0} → Flat P E → Session P E → Flat P E
 writeFlat h s = flatAs h s (s .phase)
 
 module _ (k : Kind) where
+  -- what memory holds of a session of this kind
   abbrev pub F : Type 0
   F = Flat (k .Parts) (k .Entry)
 

@@ -21,13 +21,16 @@ use Rattle.tx_list.specs.declared.State.the-variants.{AwaitStartup, Read
 abbrev pub push : {A : Type 0} → Buf A → A → Buf A
 push b x = record { items = set (b .items) (b .n) x; n = b .n + 1 }
 
+-- the same where a test passes
 abbrev pub pushIf : {A : Type 0} → Bool → Buf A → A → Buf A
 pushIf true b x = push b x
 pushIf false b x = b
 
+-- a list more at the end
 abbrev pub append : {A : Type 0} → Buf A → List A → Buf A
 append b xs = record { items = sets (b .items) (b .n) xs; n = b .n + length xs }
 
+-- a count of 0; what stands in the array stays
 abbrev pub emptied : {A : Type 0} → Buf A → Buf A
 emptied b = record { items = b .items; n = 0 }
 
@@ -54,13 +57,15 @@ owesIn Committing n = true
 owesIn Activating n = true
 owesIn Done n = true
 
--- sums and record lists
+-- "before enabling (done aside) a record list passes 192"
 abbrev pub oldIn : {P E : Type 0} → Flat P E → List (ℕ × ℕ)
 oldIn h = (h .saved .n, 192) ∷ (h .present .n, 192) ∷ (h .refused .n, 192) ∷ []
 
+-- "committing or activating, saved + fresh passes 256"
 abbrev pub savedIn : {P E : Type 0} → Flat P E → List (ℕ × ℕ)
 savedIn h = (h .saved .n + h .fresh .n, 256) ∷ []
 
+-- "enabling, .. fresh + owed passes 64, known + owed 1,344, or present + owed, refused + owed or saved + fresh + owed 256"
 abbrev pub sumsIn : (k : Kind) → State → Flat (k .Parts) (k .Entry) → List (ℕ × ℕ)
 sumsIn k AwaitStartup h = oldIn h
 sumsIn k ReadAt h = oldIn h
@@ -77,6 +82,7 @@ sumsIn k Committing h = savedIn h
 sumsIn k Activating h = savedIn h
 sumsIn k Done h = []
 
+-- 16: all of them, with every count in memory
 unfoldable pub soundIn : (k : Kind) → Flat (k .Parts) (k .Entry) → Bool
 soundIn k h =
     (k .okay (h .f2) && allLe (counts k h))
@@ -99,6 +105,7 @@ pub record Moved (P E : Type 0) : Type 0 where
   pub sent : List Command
   pub handed : List ℕ
 
+-- nothing changes
 abbrev pub stays : {P E : Type 0} → Flat P E → Moved P E
 stays h = record { flat = h; sent = []; handed = [] }
 
@@ -254,9 +261,11 @@ abbrev pub forgets : {P E : Type 0} → Flat P E → Flat P E
 forgets h = withKnown h false false (emptied (h .known))
 
 module _ (k : Kind) where
+  -- what memory holds of a session of this kind
   abbrev pub F : Type 0
   F = Flat (k .Parts) (k .Entry)
 
+  -- what a call does to it
   abbrev pub M : Type 0
   M = Moved (k .Parts) (k .Entry)
 
@@ -265,6 +274,7 @@ module _ (k : Kind) where
   startF1 h a t =
       record { flat = goTo (withList h (emptied (h .list))) (ReadingF1 a) (t + 10000); sent = read1 ∷ []; handed = [] }
 
+  -- "40 then 4F (Format 2)", from no parts
   abbrev pub startF2 : F → ℕ → ℕ → M
   startF2 h a t =
       record {
@@ -277,6 +287,7 @@ module _ (k : Kind) where
   abbrev pub finishes : F → M
   finishes h = record { flat = goTo h Done (h .deadline); sent = []; handed = [] }
 
+  -- "the session is done, with no list known"
   abbrev pub givesUp : F → M
   givesUp h = record { flat = goTo (forgets h) Done (h .deadline); sent = []; handed = [] }
 
@@ -298,9 +309,11 @@ module _ (k : Kind) where
       owed (k .pgnOf) (live (h .wanted)) l
       (record { saved = live (h .saved); present = live (h .present); refused = live (h .refused) })
 
+  -- "known = list plus absent present PGNs"
   abbrev pub knows : F → List ℕ → Bool → F
   knows h l b = withKnown h true b (fill (h .known) (notes l (live (h .present))))
 
+  -- "The commands owed are as demand 3 says; with none, done."
   unfoldable pub asks : F → List ℕ → ℕ → M
   asks h [] t = record { flat = goTo h Done (t + 10000); sent = []; handed = [] }
   asks h (p ∷ ps) t =
@@ -310,6 +323,7 @@ module _ (k : Kind) where
         handed = [];
       }
 
+  -- a list was read: both
   abbrev pub gets : F → List ℕ → Bool → ℕ → M
   gets h l b t = asks (knows h l b) (owing h l) t
 
@@ -317,6 +331,7 @@ module _ (k : Kind) where
   abbrev pub oldest : F → ℕ
   oldest h = getD (h .owed .items) 0 0
 
+  -- error 0, −996, else: the record, known and fresh after an answer of this kind
   abbrev pub marks : F → List ℕ → Answer → F
   marks h m a =
       withOwed
@@ -338,15 +353,19 @@ module _ (k : Kind) where
         handed = [];
       }
 
+  -- "All answered, fresh ones lead to commit"
   abbrev pub commits : F → ℕ → M
   commits h t = record { flat = goTo h Committing (t + 10000); sent = commit ∷ []; handed = [] }
 
+  -- "or with none fresh, done"
   abbrev pub closes : F → ℕ → M
   closes h t = record { flat = goTo h Done (t + 10000); sent = []; handed = [] }
 
+  -- which of the three it is
   unfoldable pub goesOn : F → ℕ → M
   goesOn h t = pick (ltb 1 (h .owed .n)) (asksNext h t) (pick (eqb (h .fresh .n) 0) (closes h t) (commits h t))
 
+  -- a message starting 47 while enabling
   unfoldable pub answered : F → ℕ → List ℕ → M
   answered h t m = goesOn (marks h m (answerOf m)) t
 
@@ -354,11 +373,13 @@ module _ (k : Kind) where
   abbrev pub turnedDown : F → ℕ → M
   turnedDown h t = record { flat = goTo h Done (t + 10000); sent = []; handed = live (h .fresh) }
 
+  -- the answer to commit
   unfoldable pub committed : Ack → F → ℕ → M
   committed good h t = record { flat = goTo h Activating (t + 10000); sent = activate ∷ []; handed = [] }
   committed bad h t = turnedDown h t
   committed nothing h t = stays h
 
+  -- the answer to activate: "activate's answer adds them to saved"
   unfoldable pub activated : Ack → F → ℕ → M
   activated good h t =
       record {
@@ -369,15 +390,18 @@ module _ (k : Kind) where
   activated bad h t = turnedDown h t
   activated nothing h t = stays h
 
+  -- a message while Format 1 is read
   unfoldable pub inF1 : F1 → F → ℕ → M
   inF1 (adds xs) h t = addsTo h xs t
   inF1 ends h t = gets h (live (h .list)) false t
   inF1 neither h t = stays h
 
+  -- "all three in hand", or not yet
   unfoldable pub inWhole : Option (List ℕ) → F → k .Parts → ℕ → M
   inWhole none h p t = puts h p t
   inWhole (some l) h p t = gets h l true t
 
+  -- a message while Format 2 is read: "A Format 2 reply with non-zero error goes to Format 1 at once."
   unfoldable pub inF2 : F2 → F → ℕ → List ℕ → M
   inF2 wrong h t m = startF1 h 1 t
   inF2 part h t m = inWhole (k .whole (k .put m (h .f2))) h (k .put m (h .f2)) t
@@ -405,6 +429,7 @@ module _ (k : Kind) where
   late Activating h t = finishes h
   late Done h t = stays h
 
+  -- "A tick at or after a due time acts."
   unfoldable pub ticked : F → ℕ → M
   ticked h t = pick (leb (h .deadline) t) (late (h .state) h t) (stays h)
 
@@ -416,12 +441,15 @@ module _ (k : Kind) where
   abbrev pub judgeMessage : F → ℕ → List ℕ → ℕ → Verdict
   judgeMessage h t m room = unless (not (soundIn k h)) 16 (vetMessage t m room (fullIn k (h .state) h m))
 
+  -- "tick 16, 13, 7"
   abbrev pub judgeTick : F → ℕ → ℕ → Verdict
   judgeTick h t room = unless (not (soundIn k h)) 16 (vetTick t room)
 
+  -- "setting firmware, .. `abandon`: 16"
   abbrev pub judgeState : F → Verdict
   judgeState h = unless (not (soundIn k h)) 16 taken
 
+  -- "Restart 16, 12"
   abbrev pub judgeRestart : F → Verdict
   judgeRestart h = unless (not (soundIn k h)) 16 (unless (not (allLe (oldIn h))) 12 taken)
 

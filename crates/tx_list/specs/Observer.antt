@@ -46,6 +46,7 @@ wholeRead (commits l b ms) = b
 wholeRead (activates l b ms) = b
 wholeRead (over l b ms a) = b
 
+-- the messages that answered enable commands, oldest first
 unfoldable pub answers : {P : Type 0} → Stage P → List (List ℕ)
 answers (reads r) = []
 answers unread = []
@@ -54,6 +55,7 @@ answers (commits l b ms) = ms
 answers (activates l b ms) = ms
 answers (over l b ms a) = ms
 
+-- "once activation is answered"
 unfoldable pub activated : {P : Type 0} → Stage P → Bool
 activated (reads r) = false
 activated unread = false
@@ -62,6 +64,7 @@ activated (commits l b ms) = false
 activated (activates l b ms) = false
 activated (over l b ms a) = a
 
+-- "the session done"
 unfoldable pub isOver : {P : Type 0} → Stage P → Bool
 isOver (reads r) = false
 isOver unread = true
@@ -92,6 +95,7 @@ module _ (k : Kind) (w : List ℕ) (old : Record (k .Entry)) where
   unfoldable pub watching : W
   watching = record { stage = reads await; due = 0; version = none }
 
+  -- another stage and due time; the firmware that was set stays
   unfoldable pub goOn : W → Stage (k .Parts) → ℕ → W
   goOn v st d = record { stage = st; due = d; version = v .version }
 
@@ -100,6 +104,7 @@ module _ (k : Kind) (w : List ℕ) (old : Record (k .Entry)) where
   seenRead [] l b v t = goOn v (over l b [] false) (t + 10000)
   seenRead (p ∷ ps) l b v t = goOn v (asks l b []) (t + 10000)
 
+  -- what a call does to the reading
   unfoldable pub seeTurn : Turn (k .Parts) → W → ℕ → W
   seeTurn stay v t = v
   seeTurn (goes r d cs) v t = goOn v (reads r) d
@@ -123,11 +128,13 @@ module _ (k : Kind) (w : List ℕ) (old : Record (k .Entry)) where
   seeCommit bad l b ms v t = goOn v (over l b ms false) (t + 10000)
   seeCommit nothing l b ms v t = v
 
+  -- activate's answer, or another message
   unfoldable pub seeActivate : Ack → List ℕ → Bool → List (List ℕ) → W → ℕ → W
   seeActivate good l b ms v t = goOn v (over l b ms true) (t + 10000)
   seeActivate bad l b ms v t = goOn v (over l b ms false) (t + 10000)
   seeActivate nothing l b ms v t = v
 
+  -- a message that is not refused, by the stage
   unfoldable pub seeMessage : Stage (k .Parts) → W → ℕ → List ℕ → W
   seeMessage (reads r) v t m = seeTurn (readMessage k r t m) v t
   seeMessage unread v t m = v
@@ -141,6 +148,7 @@ module _ (k : Kind) (w : List ℕ) (old : Record (k .Entry)) where
   seeLate true l b ms v = goOn v (over l b ms false) (v .due)
   seeLate false l b ms v = v
 
+  -- a tick that is not refused, by the stage
   unfoldable pub seeTick : Stage (k .Parts) → W → ℕ → W
   seeTick (reads r) v t = seeTurn (readTick k r (v .due) (v .version) t) v t
   seeTick unread v t = v
@@ -149,6 +157,7 @@ module _ (k : Kind) (w : List ℕ) (old : Record (k .Entry)) where
   seeTick (activates l b ms) v t = seeLate (leb (v .due) t) l b ms v
   seeTick (over l b ms a) v t = v
 
+  -- 14: "Format 1 list would pass 1,024", by the stage
   unfoldable pub seeFull : Stage (k .Parts) → List ℕ → Bool
   seeFull (reads r) m = full k r m
   seeFull unread m = false
@@ -157,16 +166,18 @@ module _ (k : Kind) (w : List ℕ) (old : Record (k .Entry)) where
   seeFull (activates l b ms) m = false
   seeFull (over l b ms a) m = false
 
-  -- "a message or tick refused with all unchanged unlessRefused everywhere as never given"
+  -- "a message or tick refused with all unchanged counts everywhere as never given"
   unfoldable pub unlessRefused : Verdict → W → W → W
   unlessRefused taken v x = x
   unlessRefused (refuse n) v x = v
 
+  -- a call; "every list of messages, ticks and firmware settings, refused ones included"
   unfoldable pub see : W → Call → W
   see v (message t m room) = unlessRefused (vetMessage t m room (seeFull (v .stage) m)) v (seeMessage (v .stage) v t m)
   see v (tick t room) = unlessRefused (vetTick t room) v (seeTick (v .stage) v t)
   see v (firmware f) = record { stage = v .stage; due = v .due; version = some f }
 
+  -- calls one after the other
   unfoldable pub seeAll : W → List Call → W
   seeAll v [] = v
   seeAll v (c ∷ cs) = seeAll (see v c) cs

@@ -58,6 +58,7 @@ module _ (k : Kind) where
   unfoldable pub start1 : ℕ → ℕ → Turn (k .Parts)
   start1 a t = goes (first a []) (t + 10000) (read1 ∷ [])
 
+  -- the same in Format 2
   unfoldable pub start2 : ℕ → ℕ → Turn (k .Parts)
   start2 a t = goes (second a (k .blank)) (t + 10000) (read40 ∷ read4F ∷ [])
 
@@ -83,6 +84,7 @@ module _ (k : Kind) where
   onF2 part a p t m = onWhole (k .whole (k .put m p)) a (k .put m p) t
   onF2 alien a p t m = stay
 
+  -- a message, by how far the reading is
   unfoldable pub readMessage : Reading (k .Parts) → ℕ → List ℕ → Turn (k .Parts)
   readMessage await t m = onMode (isMode m) t
   readMessage waits t m = stay
@@ -94,10 +96,12 @@ module _ (k : Kind) where
   opens true t = start2 1 t
   opens false t = start1 1 t
 
+  -- "three attempts in Format 2, then three in Format 1": a time-out in Format 2
   unfoldable pub again2 : Bool → ℕ → ℕ → Turn (k .Parts)
   again2 true a t = start2 (suc a) t
   again2 false a t = start1 1 t
 
+  -- "When the third in Format 1 times out": a time-out in Format 1
   unfoldable pub again1 : Bool → ℕ → ℕ → Turn (k .Parts)
   again1 true a t = start1 (suc a) t
   again1 false a t = fails
@@ -132,6 +136,7 @@ pub data Verdict : Type 0 where
   taken : Verdict
   refuse : ℕ → Verdict
 
+-- refused with this number where the test holds, else by the tests that follow
 unfoldable pub unless : Bool → ℕ → Verdict → Verdict
 unless true n v = refuse n
 unless false n v = v
@@ -142,5 +147,6 @@ vetMessage t m room over14 =
     unless (ltb 18446744073709541615 t) 13
     (unless (ltb 255 (length m)) 6 (unless (ltb room 32) 7 (unless over14 14 taken)))
 
+-- "tick 16, 13, 7": all but 16
 unfoldable pub vetTick : ℕ → ℕ → Verdict
 vetTick t room = unless (ltb 18446744073709541615 t) 13 (unless (ltb room 32) 7 taken)

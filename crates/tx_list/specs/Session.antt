@@ -22,6 +22,7 @@ pub record Known : Type 0 where
   pub isWhole : Bool
   pub pgns : List ℕ
 
+-- no list is known
 unfoldable pub unknown : Known
 unknown = record { isRead = false; isWhole = false; pgns = [] }
 
@@ -33,6 +34,7 @@ pub data Phase (P : Type 0) : Type 0 where
   activating : List ℕ → Phase P
   done : Phase P
 
+-- "done"
 unfoldable pub isDone : {P : Type 0} → Phase P → Bool
 isDone (reading r) = false
 isDone (enabling todo fresh) = false
@@ -40,6 +42,7 @@ isDone (committing fresh) = false
 isDone (activating fresh) = false
 isDone done = true
 
+-- a session: what is wanted, its record, the known list, the phase, the due time, the firmware if one was set
 pub record Session (P E : Type 0) : Type 0 where
   pub wanted : List ℕ
   pub rec : Record E
@@ -82,17 +85,21 @@ abbrev pub allLe : List (ℕ × ℕ) → Bool
 allLe [] = true
 allLe (x ∷ xs) = leb (x .0) (x .1) && allLe xs
 
+-- the fact
 abbrev pub AllLe : List (ℕ × ℕ) → Type 0
 AllLe [] = Unit {0}
 AllLe (x ∷ xs) = (x .0 ≤ x .1) × AllLe xs
 
 module _ (k : Kind) where
+  -- the record of this kind of session
   abbrev pub Rec : Type 0
   Rec = Record (k .Entry)
 
+  -- a session of this kind
   abbrev pub S : Type 0
   S = Session (k .Parts) (k .Entry)
 
+  -- what a call of it gives
   abbrev pub R : Type 0
   R = Result (k .Parts) (k .Entry)
 
@@ -121,6 +128,7 @@ module _ (k : Kind) where
   phaseCounts (activating fresh) = (length fresh, k .wantMax) ∷ []
   phaseCounts done = []
 
+  -- "wanted, owed, fresh 64; list 1,024; .. known 1,344; record lists 256", each beside its capacity
   unfoldable pub counts : S → List (ℕ × ℕ)
   counts s =
       (length (s .wanted), k .wantMax)
@@ -130,6 +138,7 @@ module _ (k : Kind) where
       ∷ (length (s .known .pgns), knownMax)
       ∷ phaseCounts (s .phase)
 
+  -- "proprietary 512"; and a session that reads Format 1 only is never reading Format 2
   unfoldable pub partsOkay : Phase (k .Parts) → Bool
   partsOkay (reading await) = true
   partsOkay (reading waits) = true
@@ -140,6 +149,7 @@ module _ (k : Kind) where
   partsOkay (activating fresh) = true
   partsOkay done = true
 
+  -- no "count passes its capacity"
   unfoldable pub countsFit : S → Bool
   countsFit s = partsOkay (s .phase) && allLe (counts s)
 
@@ -168,6 +178,7 @@ module _ (k : Kind) where
   sums s (activating fresh) = (length (s .rec .saved) + length fresh, 256) ∷ []
   sums s done = []
 
+  -- none of these sums and lists passes its bound
   unfoldable pub sumsFit : S → Bool
   sumsFit s = allLe (sums s (s .phase))
 
@@ -181,9 +192,11 @@ module _ (k : Kind) where
   beginBy false false w r = refuses 12
   beginBy false true w r = did (begins w r) [] []
 
+  -- "a record list over 192, at begin or restart"
   abbrev pub oldBounds : Rec → List (ℕ × ℕ)
   oldBounds r = (length (r .saved), 192) ∷ (length (r .present), 192) ∷ (length (r .refused), 192) ∷ []
 
+  -- 11 "over 64 wanted at begin", 12 "a record list over 192"; else a new session
   unfoldable pub begin : List ℕ → Rec → R
   begin w r = beginBy (ltb (k .wantMax) (length w)) (allLe (oldBounds r)) w r
 
@@ -192,6 +205,7 @@ module _ (k : Kind) where
   opened [] s kn t = did (becomes s (s .rec) kn done (t + 10000)) [] []
   opened (p ∷ ps) s kn t = did (becomes s (s .rec) kn (enabling (p ∷ ps) []) (t + 10000)) (enable p ∷ []) []
 
+  -- "known = list plus absent present PGNs"; a list read in Format 2 is whole
   unfoldable pub knowing : List ℕ → Bool → S → Known
   knowing l b s = record { isRead = true; isWhole = b; pgns = notes l (s .rec .present) }
 
@@ -225,11 +239,13 @@ module _ (k : Kind) where
   onCommit bad fresh s t = did (becomes s (s .rec) (s .known) done (t + 10000)) [] fresh
   onCommit nothing fresh s t = did s [] []
 
+  -- "activate's answer adds them to saved. Then .. done."
   unfoldable pub onActivate : Ack → List ℕ → S → ℕ → R
   onActivate good fresh s t = did (becomes s (kept (s .rec) fresh) (s .known) done (t + 10000)) [] []
   onActivate bad fresh s t = did (becomes s (s .rec) (s .known) done (t + 10000)) [] fresh
   onActivate nothing fresh s t = did s [] []
 
+  -- a message, by the phase
   unfoldable pub onMessage : Phase (k .Parts) → S → ℕ → List ℕ → R
   onMessage (reading r) s t m = onTurn (readMessage k r t m) s t
   onMessage (enabling todo fresh) s t m = onAnswer (isAnswer m) todo fresh s t m
@@ -242,6 +258,7 @@ module _ (k : Kind) where
   expire true s = did (becomes s (s .rec) (s .known) done (s .deadline)) [] []
   expire false s = did s [] []
 
+  -- a tick, by the phase
   unfoldable pub onTick : Phase (k .Parts) → S → ℕ → R
   onTick (reading r) s t = onTurn (readTick k r (s .deadline) (s .firmware) t) s t
   onTick (enabling todo fresh) s t = expire (leb (s .deadline) t) s
@@ -249,12 +266,14 @@ module _ (k : Kind) where
   onTick (activating fresh) s t = expire (leb (s .deadline) t) s
   onTick done s t = did s [] []
 
+  -- "setting firmware": nothing else changes
   unfoldable pub onFirmware : S → ℕ → R
   onFirmware s f =
       did
       (record { wanted = s .wanted; rec = s .rec; known = s .known; phase = s .phase; deadline = s .deadline; firmware = some f })
       [] []
 
+  -- 14 "Format 1 list would pass 1,024": only while Format 1 is read
   unfoldable pub full14 : Phase (k .Parts) → List ℕ → Bool
   full14 (reading r) m = full k r m
   full14 (enabling todo fresh) m = false
@@ -262,6 +281,7 @@ module _ (k : Kind) where
   full14 (activating fresh) m = false
   full14 done m = false
 
+  -- a call that is refused gives its number alone
   unfoldable pub gate : Verdict → R → R
   gate taken x = x
   gate (refuse n) x = refuses n
@@ -278,6 +298,7 @@ module _ (k : Kind) where
   soundly true x = x
   soundly false x = refuses 16
 
+  -- "`restart` keeps wanted and record only"
   unfoldable pub restart : S → R
   restart s = soundly (wellFormed s) (begin (s .wanted) (s .rec))
 
@@ -291,12 +312,14 @@ pub data Lacks : Type 0 where
   fromWhole : Lacks
   fromPart : Lacks
 
+-- by whether a list is known, has the PGN, and is whole
 unfoldable pub lacksBy : Bool → Bool → Bool → Lacks
 lacksBy false h b = silent
 lacksBy true true b = silent
 lacksBy true false true = fromWhole
 lacksBy true false false = fromPart
 
+-- of a PGN and the known list
 unfoldable pub lacks : Known → ℕ → Lacks
 lacks kn p = lacksBy (kn .isRead) (has p (kn .pgns)) (kn .isWhole)
 
@@ -305,10 +328,12 @@ pub record Ran (P E : Type 0) : Type 0 where
   pub session : Session P E
   pub sent : List Command
 
+-- a call's result put behind the run so far; "a message or tick refused .. counts everywhere as never given"
 unfoldable pub settle : {P E : Type 0} → Ran P E → Result P E → Ran P E
 settle r (did s cs hs) = record { session = s; sent = r .sent ++ cs }
 settle r (refuses n) = r
 
+-- calls one after the other
 unfoldable pub run : (k : Kind) → Ran (k .Parts) (k .Entry) → List Call → Ran (k .Parts) (k .Entry)
 run k r [] = r
 run k r (c ∷ cs) = run k (settle r (step k (r .session) c)) cs

@@ -9,6 +9,7 @@ use Rattle.tx_list.specs.Reading.{Command, Kind, Call}
 use Rattle.tx_list.specs.Session.{Record, Session, Result, did, refuses, begin, restart, abandon, step, soundly, wellFormed}
 use Rattle.tx_list.specs.Demand.{Claim, happened}
 
+-- how a struct keeps a session of a kind
 pub record Store (k : Kind) : Type 1 where
   pub Kept : Type 0
   pub abs : Kept → Session (k .Parts) (k .Entry)
@@ -23,6 +24,7 @@ pub record Store (k : Kind) : Type 1 where
   pub frame : Command → List ℕ
 
 module _ (k : Kind) (m : Store k) where
+  -- "one lent slice, commands end to end"
   unfoldable pub wire : List Command → List ℕ
   wire [] = []
   wire (c ∷ cs) = m .frame c ++ wire cs
@@ -34,6 +36,7 @@ module _ (k : Kind) (m : Store k) where
     pub handed : List ℕ
     pub no : ℕ
 
+  -- a result in memory; a refusal leaves the struct as it was ("6 to 16 return the number alone and change no state or lent byte")
   unfoldable pub answer : m .Kept → Result (k .Parts) (k .Entry) → Answer
   answer c (did s cs hs) = record { kept = m .write c s; bytes = wire cs; handed = hs; no = 0 }
   answer c (refuses n) = record { kept = c; bytes = []; handed = []; no = n }
@@ -46,13 +49,16 @@ module _ (k : Kind) (m : Store k) where
   unfoldable pub abandoned : m .Kept → Answer
   abandoned c = answer c (soundly k (m .counted c) (abandon k (m .abs c)))
 
+  -- the struct that the last call left, and all bytes written so far
   pub record Ran′ : Type 0 where
     pub kept : m .Kept
     pub bytes : List ℕ
 
+  -- an answer put behind the run so far
   unfoldable pub then : Ran′ → Answer → Ran′
   then r a = record { kept = a .kept; bytes = r .bytes ++ a .bytes }
 
+  -- calls one after the other
   unfoldable pub runs : Ran′ → List Call → Ran′
   runs r [] = r
   runs r (x ∷ xs) = runs (then r (called (r .kept) x)) xs
@@ -62,6 +68,7 @@ module _ (k : Kind) (m : Store k) where
     new : List ℕ → Record (k .Entry) → Opening′
     again : m .Kept → Opening′
 
+  -- what they answer
   unfoldable pub opens : Opening′ → Answer
   opens (new w r) = answer (m .clear) (begin k w r)
   opens (again c) = answer c (soundly k (m .counted c) (restart k (m .abs c)))
@@ -71,6 +78,7 @@ module _ (k : Kind) (m : Store k) where
   wanted′ (new w r) = w
   wanted′ (again c) = m .abs c .wanted
 
+  -- "The old lists are the record's at that begin or restart"
   unfoldable pub old′ : Opening′ → Record (k .Entry)
   old′ (new w r) = r
   old′ (again c) = m .abs c .rec

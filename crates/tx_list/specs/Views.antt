@@ -26,6 +26,7 @@ only false x = []
 unfoldable pub note : List ℕ → ℕ → List ℕ
 note kn p = kn ++ only (not (has p kn)) p
 
+-- one after the other
 unfoldable pub notes : List ℕ → List ℕ → List ℕ
 notes kn [] = kn
 notes kn (p ∷ ps) = notes (note kn p) ps
@@ -50,10 +51,12 @@ unfoldable pub isZero : ℤ → Bool
 isZero (pos n) = eqb n 0
 isZero (negsuc n) = false
 
+-- "−996"
 unfoldable pub isAlready : ℤ → Bool
 isAlready (pos n) = false
 isAlready (negsuc n) = eqb n 995
 
+-- "error 0" of a reply
 unfoldable pub noError : List ℕ → Bool
 noError m = isZero (headerOf m .error)
 
@@ -62,6 +65,7 @@ unfoldable pub isFound : Found → Bool
 isFound modes.none = false
 isFound (found m) = true
 
+-- a message that is one
 unfoldable pub isMode : List ℕ → Bool
 isMode m = isFound (reportedMode m)
 
@@ -70,6 +74,7 @@ unfoldable pub pgnsAt : List ℕ → ℕ → ℕ → List ℕ
 pgnsAt m at zero = []
 pgnsAt m at (suc n) = field m at 4 ∷ pgnsAt m (at + 4) n
 
+-- the smaller number
 unfoldable pub least : ℕ → ℕ → ℕ
 least a b = pick (leb a b) a b
 
@@ -77,6 +82,7 @@ least a b = pick (leb a b) a b
 unfoldable pub groupCount : List ℕ → ℕ
 groupCount m = least (getD m 12 0) ((length m - 13) / 4)
 
+-- the PGNs that such a message adds
 unfoldable pub listPgns : List ℕ → List ℕ
 listPgns m = pgnsAt m 13 (groupCount m)
 
@@ -86,6 +92,7 @@ pub data F1 : Type 0 where
   ends : F1
   neither : F1
 
+-- by whether byte 1 is 1, and whether it is 4
 unfoldable pub f1By : Bool → Bool → List ℕ → F1
 f1By true e l = adds l
 f1By false true l = ends
@@ -95,6 +102,7 @@ f1By false false l = neither
 unfoldable pub f1Of : List ℕ → F1
 f1Of m = f1By (starts 0x49 m && sequence 1 m) (starts 0x49 m && sequence 4 m) (listPgns m)
 
+-- the PGNs that a message adds, if any
 unfoldable pub added : F1 → List ℕ
 added (adds l) = l
 added ends = []
@@ -106,6 +114,7 @@ pub data F2 : Type 0 where
   part : F2
   alien : F2
 
+-- by whether it is a parsed reply 40 or 4F, and whether its error is 0
 unfoldable pub f2By : Bool → Bool → F2
 f2By true true = part
 f2By true false = wrong
@@ -121,6 +130,7 @@ pub data Answer : Type 0 where
   there : Answer
   denied : Answer
 
+-- by byte 1 and length, by error 0, and by −996
 unfoldable pub answerBy : Bool → Bool → Bool → Answer
 answerBy true true p = enabled
 answerBy true false true = there
@@ -136,11 +146,13 @@ isAnswer m = starts 0x47 m
 unfoldable pub answerOf : List ℕ → Answer
 answerOf m = answerBy (sequence 1 m && parsed m) (noError m) (isAlready (headerOf m .error))
 
+-- "else refused"
 unfoldable pub isDenied : Answer → Bool
 isDenied enabled = false
 isDenied there = false
 isDenied denied = true
 
+-- "already there (present)"
 unfoldable pub isThere : Answer → Bool
 isThere enabled = false
 isThere there = true
@@ -164,10 +176,12 @@ pub data Ack : Type 0 where
   bad : Ack
   nothing : Ack
 
+-- of a strict session: good or bad
 unfoldable pub ackStrictly : Bool → Ack
 ackStrictly true = good
 ackStrictly false = bad
 
+-- by the first byte, by whether the session is strict, and by length and error
 unfoldable pub ackBy : Bool → Bool → Bool → Ack
 ackBy true true e = ackStrictly e
 ackBy true false e = good

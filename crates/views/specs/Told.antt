@@ -18,11 +18,13 @@ toldF1 Adds l = adds l
 toldF1 Ends l = ends
 toldF1 Neither l = neither
 
+-- the enum's cases
 abbrev pub toldF2 : F2Kind → F2
 toldF2 Wrong = wrong
 toldF2 Part = part
 toldF2 Alien = alien
 
+-- the enum's cases: "enabled (saved)", "already there (present)", "refused"
 abbrev pub toldResult : EnableResult → Answer
 toldResult Now = enabled
 toldResult Already = there
