@@ -1,6 +1,7 @@
-// Format 2 lists (document 01, module 5): the supported list, the enabled list and the proprietary maps of a gateway, put together
-// from its replies, and the list of PGNs that they give.
-// Numbers: 16, the proprietary count passes 512; 7, the lent list is under 767.
+// Format 2 lists (module 5): the supported list, the enabled list and the proprietary maps of a gateway, put together from its replies,
+// and the list of PGNs that they give.
+// Numbers: 16 (the proprietary count passes 512), 7 (the lent list is under 767).
+// Place: on `field`; below `phases`, `session` and `ngt1`.
 ghost use mathlib.Core.Path.{_≡_};
 ghost use mathlib.Core.Bool.{_&&_};
 ghost use mathlib.Core.List.{_++_};

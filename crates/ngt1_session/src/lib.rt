@@ -1,7 +1,7 @@
 // The library of the start-up session that programs in C and Rust link: the session in the caller's memory, 17 numbers (see `numbers`),
-// eight arrays of PGNs, and the parts of a Format 2 read. It stands above the session and keeps no state; libngt1.a has the other layers.
-// A call changes in place what it changes; it copies no array. A phase over 7 is none: refusal 16, and nothing is done.
-// Numbers: 0 done or nothing, 6, 7, 11 to 14 and 16 the refusals of document 01, 100 a message that is for the other function.
+// eight arrays of PGNs, and the parts of a Format 2 read. It keeps no state; a call changes in place what it changes and copies no array.
+// Numbers: 0 done or nothing, 6, 7, 11 to 14 and 16 of document 01, 100 a message that is for the other function. A phase over 7 is none: 16.
+// Place: on `phases`, `numbers`, `views` and `pgns`, beside `session`; libngt1.a has the other layers.
 use field::give;
 use lists::F2List;
 use numbers::attempt_of;

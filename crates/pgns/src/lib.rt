@@ -1,5 +1,6 @@
-// Lists of PGNs in lent arrays, each with a count (document 01, module 6): looked up, appended, moved down, noted once, owed.
-// Stands below the session. No function requires anything: a count past an array's end counts the array, and what does not fit is dropped.
+// Lists of PGNs in lent arrays, each with a count (module 6): looked up, appended, moved down, noted once, owed.
+// Numbers: none. No function requires anything: a count past an array's end counts the array, and what does not fit is dropped.
+// Place: on `tx_list` and `field`; below `phases`, `session` and `ngt1_session`.
 ghost use mathlib.Core.Path.{_≡_};
 ghost use mathlib.Core.Bool.{not};
 ghost use Prim.Native.Nat.{_+_, _-_, _*_, _≤_, _<_};

@@ -1,5 +1,6 @@
-// What a message says to the session, from its bytes alone (document 01, module 6). Stands on replies, below the session.
-// No function requires anything.
+// What a message says to the session, from its bytes alone (module 6).
+// Numbers: none. No function requires anything: a message of any length is looked at.
+// Place: on `replies`, `tx_list` and `field`; below `phases` and `ngt1_session`.
 ghost use mathlib.Core.Path.{_≡_};
 ghost use Rattle.tx_list.specs.Views as view;
 ghost use Rattle.views.specs.Told.{toldF1, toldF2, toldResult, f1Listed, isFormat2};
