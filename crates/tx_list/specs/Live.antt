@@ -6,7 +6,7 @@ use mathlib.Core.List.{List, [], _∷_, _++_, map}
 use mathlib.Core.Option.{Option, none, some}
 use Prim.Native.Nat.{ℕ, _+_, _≤_, _<_}
 use lib.ListN.{length}
-use Rattle.tx_list.specs.Views.{has, notes, isMode, F1, adds, ends, neither, f1Of, added, part, alien, f2Of, isAnswer, answerOf, isGood, good, nothing, ackOf}
+use Rattle.tx_list.specs.Views.{has, notes, isMode, F1, adds, ends, neither, f1Of, added, part, f2Of, isAnswer, answerOf, isGood, good, nothing, ackOf}
 use Rattle.tx_list.specs.Reading.{Command, read1, read40, read4F, enable, commit, activate, Kind, Call, message, tick, firmware, await, waits, second, first, isNew}
 use Rattle.tx_list.specs.Session.{Record, Phase, reading, enabling, committing, activating, done, Session, did, refuses, Ran, owed, silent, lacks, step, settle, run}
 use Rattle.tx_list.specs.Observer.{brought, toSaved}
@@ -173,7 +173,7 @@ module _ (k : Kind) where
   abbrev pub Dull : Phase (k .Parts) → List ℕ → Type 0
   Dull (reading await) m = isMode m ≡ false
   Dull (reading waits) m = Unit {0}
-  Dull (reading (second a p)) m = f2Of m ≡ alien
+  Dull (reading (second a p)) m = f2Of m ≡ neither
   Dull (reading (first a l)) m = f1Of m ≡ neither
   Dull (enabling todo fr) m = isAnswer m ≡ false
   Dull (committing fr) m = ackOf (k .strict) 0x01 m ≡ nothing

@@ -188,9 +188,9 @@ module _ (k : Kind) where
   begin w r = beginBy (ltb (k .wantMax) (length w)) (allLe (oldBounds r)) w r
 
   -- "After a list is read .. known = list plus absent present PGNs. The commands owed are as demand 3 says; with none, done."
-  unfoldable pub opened : List ℕ → S → Known → ℕ → R
-  opened [] s kn t = did (becomes s (s .rec) kn done (t + 10000)) [] []
-  opened (p ∷ ps) s kn t = did (becomes s (s .rec) kn (enabling (p ∷ ps) []) (t + 10000)) (enable p ∷ []) []
+  unfoldable pub onList : List ℕ → S → Known → ℕ → R
+  onList [] s kn t = did (becomes s (s .rec) kn done (t + 10000)) [] []
+  onList (p ∷ ps) s kn t = did (becomes s (s .rec) kn (enabling (p ∷ ps) []) (t + 10000)) (enable p ∷ []) []
 
   unfoldable pub knowing : List ℕ → Bool → S → Known
   knowing l b s = record { isRead = true; isWhole = b; pgns = notes l (s .rec .present) }
@@ -199,7 +199,7 @@ module _ (k : Kind) where
   unfoldable pub onTurn : Turn (k .Parts) → S → ℕ → R
   onTurn stay s t = did s [] []
   onTurn (goes r d cs) s t = did (becomes s (s .rec) (s .known) (reading r) d) cs []
-  onTurn (got l b) s t = opened (owed (k .pgnOf) (s .wanted) l (s .rec)) s (knowing l b s) t
+  onTurn (got l b) s t = onList (owed (k .pgnOf) (s .wanted) l (s .rec)) s (knowing l b s) t
   onTurn fails s t = did (becomes s (s .rec) unknown done (s .deadline)) [] []
 
   -- an enable command is answered: r and kn are what the answer made of the record and the known list.

@@ -20,7 +20,7 @@ pub enum F1Kind {
 pub enum F2Kind {
     Wrong,
     Part,
-    Alien,
+    Neither,
 }
 
 // The answer to an enable command: `Enabled::Now`, `Enabled::Already` and `Err` of the Rust.
@@ -114,7 +114,7 @@ pub fn f2_kind(m: &[u8]) -> F2Kind
     ensures { λ r. ⌜ toldF2 r ≡ view.f2Of (now (m .entry)) ⌝ }
 {
     if !is_format2(m) {
-        return F2Kind::Alien;
+        return F2Kind::Neither;
     }
     if replies::header(m).error == 0 {
         return F2Kind::Part;
