@@ -1,5 +1,5 @@
 // The 17 numbers of a start-up session in the caller's memory: what stands where, and what one look at them tells.
-// 0 phase (0 awaits the start-up's answer, 1 waits to read, 2 reads Format 1, 3 reads Format 2, 4 enables, 5 commits, 6 activates, 7 done);
+// 0 phase (0 waits for the mode, 1 waits to read, 2 reads Format 1, 3 reads Format 2, 4 enables, 5 commits, 6 activates, 7 done);
 // 1 attempt (modulo 2^32); how many there are: 2 wanted, 3 owed, 4 fresh, 5 of the list being read, 6 proprietary, 7 known, 8 saved,
 // 9 present, 10 refused; 11 due time; 12 a list is known (not 0), 13 and whole; 14 the firmware was told, 15 its version (modulo 2^16);
 // 16 no part of Format 2 is in hand.

@@ -31,7 +31,7 @@ abbrev pub testsOf : Answer → Tests
 testsOf a = record { good = isGood a; now = isNow a; there = isThere a; denied = isDenied a }
 
 -- the known list, the record and the fresh ones after an answer to p: each pushed to where its test passed
-pub marked : (h : Flat F2List ℕ) (m : List ℕ) {a : Answer} {x : Tests} {p : ℕ} {lacked unsaved : Bool} {k r q u : Buf ℕ}
+pub marks-is : (h : Flat F2List ℕ) (m : List ℕ) {a : Answer} {x : Tests} {p : ℕ} {lacked unsaved : Bool} {k r q u : Buf ℕ}
     → a ≡ answerOf m
     → x ≡ testsOf a
     → p ≡ oldest kind h
@@ -42,7 +42,7 @@ pub marked : (h : Flat F2List ℕ) (m : List ℕ) {a : Answer} {x : Tests} {p : 
     → q ≡ pushIf (x .denied) (h .refused) p
     → u ≡ pushIf unsaved (h .fresh) p
     → withOwed (withRecord (withKnown h (h .isKnown) (h .complete) k) (h .saved) r q) (h .owed) u ≡ marks kind h m (answerOf m)
-marked h m ea ex ep el es ek er eq eu = rw (ek, er, eq, eu, el, es, ex, ea, ep, and-assoc, fresh-now)
+marks-is h m ea ex ep el es ek er eq eu = rw (ek, er, eq, eu, el, es, ex, ea, ep, and-assoc, fresh-now)
 
 -- the answer to commit or activate, by its first byte
 ack-good : (b : ℕ) (m : List ℕ) → starts b m ≡ true → ackOf false b m ≡ good

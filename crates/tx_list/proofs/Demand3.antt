@@ -11,9 +11,9 @@ use lib.ListN.{length, take, drop, length-append, length-drop}
 use lib.Seq.{take-all}
 use Rattle.tx_list.specs.Views.{only, notes, isAnswer, answerOf, isDenied, isThere, isGood, isFresh, Ack, good, bad, nothing, ackOf, isMode, F1, adds, ends, neither, f1Of, added, F2, wrong, part, f2Of}
 use Rattle.tx_list.specs.Reading.{Command, enable, commit, activate, Kind, Reading, await, waits, second, first, Turn, stay, goes, got, fails, isNew, start1, start2, onMode, onF1, onWhole, onF2, readMessage, startRead, again2, again1, whenDue, readTick, full, Call, message, tick, firmware, Verdict, taken, refuse, unless, vetMessage, vetTick}
-use Rattle.tx_list.specs.Session.{isDone, Record, Known, unknown, Phase, reading, enabling, committing, activating, done, Session, Result, did, refuses, owed, learn, marked, kept, allLe, AllLe, knownMax, becomes, begins, phaseCounts, partsOkay, countsFit, owes, sums, sumsFit, wellFormed, beginBy, oldBounds, begin, onList, knowing, onTurn, onNext, onAnswer, onCommit, onActivate, onMessage, expire, onTick, onFirmware, full14, gate, step, soundly, restart, Ran, settle, run}
+use Rattle.tx_list.specs.Session.{isDone, Record, Known, unknown, Phase, reading, enabling, committing, activating, done, Session, Result, did, refuses, owed, learn, marked, withSaved, allLe, AllLe, knownMax, becomes, begins, phaseCounts, partsOkay, countsFit, owes, sums, sumsFit, wellFormed, beginBy, oldBounds, begin, onList, knowing, onTurn, onNext, onAnswer, onCommit, onActivate, onMessage, expire, onTick, onFirmware, full14, gate, step, soundly, restart, Ran, settle, run}
 use Rattle.tx_list.specs.Session as model
-use Rattle.tx_list.specs.Observer.{Stage, reads, unread, asks, commits, activates, over, Observer, listRead, wholeRead, answers, activated, isOver, brought, toSaved, freshOf, watching, goOn, seenRead, seeTurn, seeAnswered, seeAnswer, seeCommit, seeActivate, seeMessage, seeLate, seeTick, seeFull, unlessRefused, see, seeAll}
+use Rattle.tx_list.specs.Observer.{Stage, reads, unread, asks, commits, activates, over, Observer, listRead, wholeRead, answers, isActivated, isOver, brought, toSaved, freshOf, watching, goOn, seenRead, seeTurn, seeAnswered, seeAnswer, seeCommit, seeActivate, seeMessage, seeLate, seeTick, seeFull, unlessRefused, see, seeAll}
 use Rattle.tx_list.specs.Demand.{toPresent, toRefused, toKnown, knownFrom, owedOf, enables, gained, Claim, happened, Opening, new, again, open-with, wantedOf, oldOf, Demand3}
 use Rattle.field.specs.Tests.{both-true, left-true}
 use Rattle.tx_list.proofs.Lists.{only-length, brought-snoc, brought-answers, brought-length, owed-length, notes-append, notes-length, drop-next, take-next, drop-count, enables-append, allLe-true, length-snoc, ltb-no, ltb-yes, gained-length, allLe-yes, brought-take}
@@ -427,7 +427,7 @@ module _ (k : Kind) (w : List ℕ) (old : Record (k .Entry)) where
       → Inv (seeActivate k w old y l b ms (at (activates l b ms) d f) t)
       (settle (ran (mk (at (activates l b ms) d f)) sent)
       (onActivate k y (brought (toSaved old) ms (owed (k .pgnOf) w l old)) (mk (at (activates l b ms) d f)) t))
-  unfolding settle seeActivate onActivate goOn becomes kept gained listRead answers owedOf enables
+  unfolding settle seeActivate onActivate goOn becomes withSaved gained listRead answers owedOf enables
   activate-lands good l b ms d f t sent h =
       record {
         same = refl;
@@ -781,20 +781,20 @@ module _ (k : Kind) (w : List ℕ) (old : Record (k .Entry)) where
   abbrev pub told : Stage P → Record (k .Entry)
   told st =
       record {
-        saved = gained (activated st) (old .saved) (brought (toSaved old) (answers st) (owedOf (k .pgnOf) w old (listRead st)));
+        saved = gained (isActivated st) (old .saved) (brought (toSaved old) (answers st) (owedOf (k .pgnOf) w old (listRead st)));
         present = old .present ++ brought toPresent (answers st) (owedOf (k .pgnOf) w old (listRead st));
         refused = old .refused ++ brought (toRefused (k .entry)) (answers st) (owedOf (k .pgnOf) w old (listRead st));
       }
 
   rec-none : old ≡ told unread
-  unfolding brought gained activated answers
+  unfolding brought gained isActivated answers
   rec-none =
       λ i.
       record
       { saved = old .saved; present = sym (append-nil (old .present)) i; refused = sym (append-nil (old .refused)) i }
 
   rec-told : (st : Stage P) → recOf st ≡ told st
-  unfolding brought gained activated answers listRead owedOf
+  unfolding brought gained isActivated answers listRead owedOf
   rec-told (reads r) = rec-none
   rec-told unread = rec-none
   rec-told (asks l b ms) = refl
@@ -857,7 +857,7 @@ module _ (k : Kind) (w : List ℕ) (old : Record (k .Entry)) where
         saved =
             ap (λ s. s .rec .saved) (h .same)
             ∙ ap (λ x. x .saved) (rec-told st)
-            ∙ ap (gained (activated st) (old .saved)) (sym (sent-brought (toSaved old) st (r .sent) e));
+            ∙ ap (gained (isActivated st) (old .saved)) (sym (sent-brought (toSaved old) st (r .sent) e));
         present =
             ap (λ s. s .rec .present) (h .same)
             ∙ ap (λ x. x .present) (rec-told st)

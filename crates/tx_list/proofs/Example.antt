@@ -14,7 +14,7 @@ use Rattle.replies.specs.Bem.{headerOf, dataOf}
 use Rattle.replies.specs.Modes.{foundMode, modeOf}
 use Rattle.tx_list.specs.Views.{has, only, note, notes, starts, sequence, parsed, isZero, isAlready, noError, isFound, isMode, pgnsAt, least, groupCount, listPgns, f1By, f1Of, added, f2By, f2Of, answerBy, isAnswer, answerOf, isDenied, isThere, isGood, isFresh, ackBy, ackOf}
 use Rattle.tx_list.specs.Reading.{read1, read40, read4F, enable, commit, activate, Kind, Call, message, tick, firmware, unless, vetMessage, vetTick, full, readMessage, readTick, onMode, onF1, onWhole, onF2, start1, start2, startRead, again1, again2, whenDue, isNew}
-use Rattle.tx_list.specs.Session.{Record, unknown, done, Ran, begins, run, settle, step, gate, onFirmware, full14, onTick, expire, onMessage, onActivate, onCommit, onAnswer, onNext, onTurn, onList, knowing, becomes, wellFormed, countsFit, counts, phaseCounts, partsOkay, owes, sums, sumsFit, knownMax, kept, marked, learn, owed}
+use Rattle.tx_list.specs.Session.{Record, unknown, done, Ran, begins, run, settle, step, gate, onFirmware, full14, onTick, expire, onMessage, onActivate, onCommit, onAnswer, onNext, onTurn, onList, knowing, becomes, wellFormed, countsFit, counts, phaseCounts, partsOkay, owes, sums, sumsFit, knownMax, withSaved, marked, learn, owed}
 use Rattle.tx_list.proofs.Demand3.{Lawful}
 
 -- a small session that reads Format 1 only
@@ -89,12 +89,12 @@ ended : Small
 ended = run small committed activates-them
 
 sent-is : ended .sent ≡ read1 ∷ enable 7 ∷ enable 7 ∷ enable 13 ∷ enable 14 ∷ commit ∷ activate ∷ []
-unfolding ended committed before reads-list enables-all activates-them run settle step gate onTick expire onMessage onActivate onCommit onAnswer onNext onTurn onList knowing becomes unknown wellFormed countsFit counts phaseCounts partsOkay owes sums sumsFit knownMax kept marked learn owed begins full14 has only note notes starts sequence parsed isZero isAlready noError isFound isMode pgnsAt least groupCount listPgns f1By f1Of added answerBy isAnswer answerOf isDenied isThere isGood isFresh ackBy ackOf unless vetMessage vetTick full readMessage readTick onMode onF1 start1 startRead again1 whenDue isNew field signed32 headerOf dataOf foundMode modeOf
+unfolding ended committed before reads-list enables-all activates-them run settle step gate onTick expire onMessage onActivate onCommit onAnswer onNext onTurn onList knowing becomes unknown wellFormed countsFit counts phaseCounts partsOkay owes sums sumsFit knownMax withSaved marked learn owed begins full14 has only note notes starts sequence parsed isZero isAlready noError isFound isMode pgnsAt least groupCount listPgns f1By f1Of added answerBy isAnswer answerOf isDenied isThere isGood isFresh ackBy ackOf unless vetMessage vetTick full readMessage readTick onMode onF1 start1 startRead again1 whenDue isNew field signed32 headerOf dataOf foundMode modeOf
 sent-is = refl
 
 -- nothing is saved until activation is answered
 committed-is : committed .session .rec ≡ record { saved = 14 ∷ []; present = 11 ∷ 7 ∷ []; refused = 9 ∷ 13 ∷ [] }
-unfolding ended committed before reads-list enables-all activates-them run settle step gate onTick expire onMessage onActivate onCommit onAnswer onNext onTurn onList knowing becomes unknown wellFormed countsFit counts phaseCounts partsOkay owes sums sumsFit knownMax kept marked learn owed begins full14 has only note notes starts sequence parsed isZero isAlready noError isFound isMode pgnsAt least groupCount listPgns f1By f1Of added answerBy isAnswer answerOf isDenied isThere isGood isFresh ackBy ackOf unless vetMessage vetTick full readMessage readTick onMode onF1 start1 startRead again1 whenDue isNew field signed32 headerOf dataOf foundMode modeOf
+unfolding ended committed before reads-list enables-all activates-them run settle step gate onTick expire onMessage onActivate onCommit onAnswer onNext onTurn onList knowing becomes unknown wellFormed countsFit counts phaseCounts partsOkay owes sums sumsFit knownMax withSaved marked learn owed begins full14 has only note notes starts sequence parsed isZero isAlready noError isFound isMode pgnsAt least groupCount listPgns f1By f1Of added answerBy isAnswer answerOf isDenied isThere isGood isFresh ackBy ackOf unless vetMessage vetTick full readMessage readTick onMode onF1 start1 startRead again1 whenDue isNew field signed32 headerOf dataOf foundMode modeOf
 committed-is = refl
 
 ended-is :
@@ -107,7 +107,7 @@ ended-is :
       deadline = 13600;
       firmware = none;
     }
-unfolding ended committed before reads-list enables-all activates-them run settle step gate onTick expire onMessage onActivate onCommit onAnswer onNext onTurn onList knowing becomes unknown wellFormed countsFit counts phaseCounts partsOkay owes sums sumsFit knownMax kept marked learn owed begins full14 has only note notes starts sequence parsed isZero isAlready noError isFound isMode pgnsAt least groupCount listPgns f1By f1Of added answerBy isAnswer answerOf isDenied isThere isGood isFresh ackBy ackOf unless vetMessage vetTick full readMessage readTick onMode onF1 start1 startRead again1 whenDue isNew field signed32 headerOf dataOf foundMode modeOf
+unfolding ended committed before reads-list enables-all activates-them run settle step gate onTick expire onMessage onActivate onCommit onAnswer onNext onTurn onList knowing becomes unknown wellFormed countsFit counts phaseCounts partsOkay owes sums sumsFit knownMax withSaved marked learn owed begins full14 has only note notes starts sequence parsed isZero isAlready noError isFound isMode pgnsAt least groupCount listPgns f1By f1Of added answerBy isAnswer answerOf isDenied isThere isGood isFresh ackBy ackOf unless vetMessage vetTick full readMessage readTick onMode onF1 start1 startRead again1 whenDue isNew field signed32 headerOf dataOf foundMode modeOf
 ended-is = refl
 
 -- one that reads in three parts first, each a PGN in its thirteenth byte

@@ -15,7 +15,7 @@ use Rattle.tx_list.specs.Reading.{Command, read1, read40, read4F, enable
 use Rattle.tx_list.specs.Session.{Record, Known, Phase, reading, enabling, committing, activating, done, Session, Result, did, refuses, Ran, silent, lacks, lacksBy, step, settle, run, gate, onMessage, onTurn, onAnswer, onCommit, onActivate, onTick, expire, full14, onList, onNext, onFirmware, AllLe, oldBounds, begins}
 use Rattle.tx_list.specs.Observer.{Stage, reads, asks, commits, activates, over, Observer, listRead, answers, brought, toSaved, freshOf, watching, goOn, seenRead, seeTurn, seeAnswered, seeAnswer, seeCommit, seeActivate, seeMessage, seeTick, seeFull, unlessRefused, see, seeAll}
 use Rattle.tx_list.specs.Demand.{owedOf, gained, wantedOf, oldOf}
-use Rattle.tx_list.specs.Live.{others, asksList, closes, Gateway, inTwo, TellsFirst, Unwhole, Tells, setting, Mixed, end, next, idle, lost, Idle, Dull, NotDue, Said, isPage, said, saids, texts, listed, Each, Fair, owes, fresh, ending, startUp, Helpful, Started, Live}
+use Rattle.tx_list.specs.Live.{others, asksList, savesFresh, Gateway, inTwo, TellsFirst, Unwhole, Tells, setting, Mixed, end, next, idle, lost, Idle, Dull, NotDue, Said, isPage, said, saids, texts, listed, Each, Fair, owes, fresh, ending, startUp, Helpful, Started, Live}
 use Rattle.tx_list.proofs.Lists.{length-snoc, owed-length, brought-snoc}
 use Rattle.tx_list.proofs.LiveLists.{false-true, GoodReply, known-all, refused-none, all-served, none-served}
 use Rattle.tx_list.proofs.Demand3.{Lawful, Inv, formed, same-full, step-lands, run-lands, start-lands, opening-start, Start, mk, recOf, knownOf, phaseOf}
@@ -76,9 +76,9 @@ abbrev activateIf : List ℕ → List Command
 activateIf [] = []
 activateIf (p ∷ ps) = activate ∷ []
 
-closes-is : (fr : List ℕ) → commitIf fr ++ activateIf fr ≡ closes fr
-closes-is [] = refl
-closes-is (p ∷ ps) = refl
+saves-is : (fr : List ℕ) → commitIf fr ++ activateIf fr ≡ savesFresh fr
+saves-is [] = refl
+saves-is (p ∷ ps) = refl
 
 texts-length : (xs : List Said) → length (texts xs) ≡ length xs
 texts-length [] = refl
@@ -586,7 +586,7 @@ module _ (k : Kind) (w : List ℕ) (old : Record (k .Entry)) where
                 i .facts .asked
                 ∙ ap (λ (st : St). take (suc (length (answers st))) (owedOf (k .pgnOf) w old (listRead st))) e
                 ∙ take-all (suc (length ms)) (owes k w old g) (omega (arith, texts-length (g .replies), h .as-many));
-            rest = c ∙ ap (λ (z : List Command). asksList b ++ z) (closes-is new);
+            rest = c ∙ ap (λ (z : List Command). asksList b ++ z) (saves-is new);
             bounded = calls-bounded;
           }
 

@@ -13,7 +13,7 @@ use Rattle.field.specs.Pick.{pick}
 use Rattle.tx_list.specs.Views.{only, isMode, F1, adds, ends, neither, f1Of, added, F2, wrong, part, f2Of, Answer, isAnswer, answerOf, isDenied, isThere, isGood, isFresh, Ack, good, bad, nothing, ackOf}
 use Rattle.tx_list.specs.Reading.{Command, enable, commit, activate, Kind, Turn, onMode, onF1, onF2, onWhole, start1, start2, readMessage, readTick, startRead, again2, again1, whenDue, isNew}
 use Rattle.tx_list.specs.Session as model
-use Rattle.tx_list.specs.Session.{Record, Known, Session, Result, did, refuses, enabling, committing, done, AllLe, knownMax, becomes, begins, unknown, learn, marked, kept, owed, onList, knowing, onTurn, onNext, onAnswer, onCommit, onActivate, onMessage, onTick, onFirmware, expire}
+use Rattle.tx_list.specs.Session.{Record, Known, Session, Result, did, refuses, enabling, committing, done, AllLe, knownMax, becomes, begins, unknown, learn, marked, withSaved, owed, onList, knowing, onTurn, onNext, onAnswer, onCommit, onActivate, onMessage, onTick, onFirmware, expire}
 use Rattle.tx_list.specs.Memory.{Buf, live, fill, Flat, phaseIn, stateAs, firmwareBy, toldAs, versionAs, owedAs, freshAs, listAs, partsAs, absFlat, writeFlat, counts, Sized}
 use Rattle.tx_list.specs.Moves.{pushIf, emptied, owesIn, sumsIn, fullIn, Moved, stays, goTo, withList, withOwed, withFirmware, startF1, startF2, finishes, givesUp, waitsFrom, puts, asks, knows, oldest, marks, asksNext, commits, closes, goesOn, answered, committed, activated, inF1, inWhole, inF2, heard, late, ticked, startsOver}
 use Rattle.tx_list.specs.declared.State.{State}
@@ -318,7 +318,7 @@ module _ (k : Kind) (h : Flat (k .Parts) (k .Entry)) (z : Sized k h) (g : AllLe 
       (a : Ack) (t : ℕ)
       → h .saved .n + h .fresh .n ≤ 256
       → Does k h (onActivate k a (live (h .fresh)) σ t) (activated k a h t)
-  unfolding onActivate activated kept
+  unfolding onActivate activated withSaved
   by-activate good t u =
       let n : length (live (h .fresh)) ≡ h .fresh .n = live-length (h .fresh) (omega arith) in
       gives [] []

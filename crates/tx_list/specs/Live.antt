@@ -81,9 +81,9 @@ abbrev pub asksList : Bool → List Command
 asksList true = read40 ∷ read4F ∷ []
 asksList false = read1 ∷ []
 
-abbrev pub closes : List ℕ → List Command
-closes [] = []
-closes (p ∷ ps) = commit ∷ activate ∷ []
+abbrev pub savesFresh : List ℕ → List Command
+savesFresh [] = []
+savesFresh (p ∷ ps) = commit ∷ activate ∷ []
 
 module _ (k : Kind) (w : List ℕ) (old : Record (k .Entry)) (g : Gateway) where
   -- whether the list is read in Format 2
@@ -165,7 +165,7 @@ module _ (k : Kind) (w : List ℕ) (old : Record (k .Entry)) (g : Gateway) where
     pub refused : r .session .rec .refused ≡ old .refused
     -- the commands sent: an enable for each PGN owed; besides, the list's, and commit and activate if something is to be saved
     pub asked : enables (r .sent) ≡ owes
-    pub rest : others (r .sent) ≡ asksList inTwo ++ closes fresh
+    pub rest : others (r .sent) ≡ asksList inTwo ++ savesFresh fresh
     pub bounded : length startUp ≤ 6 + length (g .pages) + length w
 
 -- Calls of no interest, which may come in between: ticks that are not due, messages that the session does not wait for, refused calls.

@@ -11,7 +11,7 @@ use Rattle.field.specs.Pick.{pick}
 use Rattle.tx_list.specs.Views.{has, notes, isMode, F1, adds, ends, neither, f1Of, added, F2, wrong, part, f2Of, Answer, isAnswer, answerOf, isDenied, isThere, isGood, isFresh, Ack, good, bad, nothing, ackOf}
 use Rattle.tx_list.specs.Reading.{Command, read1, read40, read4F, enable, commit, activate, Kind, Verdict, taken, refuse, unless, vetMessage, vetTick}
 use Rattle.tx_list.specs.Session.{allLe, knownMax, owed}
-use Rattle.tx_list.specs.Stored.{Store, Answer as Told, wire}
+use Rattle.tx_list.specs.Stored.{Store, CallAnswer, wire}
 use Rattle.tx_list.specs.Memory.{live, fill, Flat, counts}
 pub use Rattle.tx_list.specs.Changed.{push, pushIf, append, emptied, goTo, withList, withParts, withKnown, withOwed, withRecord, withFirmware, forgets}
 use Rattle.tx_list.specs.declared.State.{State}
@@ -261,6 +261,6 @@ module _ (k : Kind) where
   judgeRestart h = unless (not (soundIn k h)) 16 (unless (not (allLe (oldIn h))) 12 taken)
 
 -- what a call answers, by its verdict
-abbrev pub told : (k : Kind) (m : Store k) → (Flat (k .Parts) (k .Entry) → m .Kept) → m .Kept → Verdict → Moved (k .Parts) (k .Entry) → Told k m
+abbrev pub told : (k : Kind) (m : Store k) → (Flat (k .Parts) (k .Entry) → m .Kept) → m .Kept → Verdict → Moved (k .Parts) (k .Entry) → CallAnswer k m
 told k m to c taken x = record { kept = to (x .flat); bytes = wire k m (x .sent); handed = x .handed; no = 0 }
 told k m to c (refuse n) x = record { kept = c; bytes = []; handed = []; no = n }

@@ -74,8 +74,8 @@ marked r p e a =
     }
 
 -- "activate's answer adds them to saved"
-unfoldable pub kept : {E : Type 0} → Record E → List ℕ → Record E
-kept r fresh = record { saved = r .saved ++ fresh; present = r .present; refused = r .refused }
+unfoldable pub withSaved : {E : Type 0} → Record E → List ℕ → Record E
+withSaved r fresh = record { saved = r .saved ++ fresh; present = r .present; refused = r .refused }
 
 -- a list of pairs, each first at most its second: as a test and as a fact
 abbrev pub allLe : List (ℕ × ℕ) → Bool
@@ -226,7 +226,7 @@ module _ (k : Kind) where
   onCommit nothing fresh s t = did s [] []
 
   unfoldable pub onActivate : Ack → List ℕ → S → ℕ → R
-  onActivate good fresh s t = did (becomes s (kept (s .rec) fresh) (s .known) done (t + 10000)) [] []
+  onActivate good fresh s t = did (becomes s (withSaved (s .rec) fresh) (s .known) done (t + 10000)) [] []
   onActivate bad fresh s t = did (becomes s (s .rec) (s .known) done (t + 10000)) [] fresh
   onActivate nothing fresh s t = did s [] []
 

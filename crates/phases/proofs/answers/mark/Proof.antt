@@ -3,7 +3,7 @@ use native.Mathlib.Omega.{arith}
 use mathlib.Core.Path.{_≡_}
 use borrow.Author.Needs.{needs}
 use lib.ListN.{length}
-use Rattle.phases.specs.AnswersLaws.{marked}
+use Rattle.phases.specs.AnswersLaws.{marks-is}
 use Rattle.phases.specs.Lent.{lent, syncOf}
 use Rattle.phases.proofs.answers.mark.Statement.{statement}
 use Rattle.phases.proofs.answers.mark.Tie as tie
@@ -52,7 +52,7 @@ returns c =
     let r = t .before in
     let a = r .before .before .args in
     λ w o l f e.
-    marked
+    marks-is
     (syncOf (a .x) (lent w o (a .fresh .now) l (a .known .now) (a .saved .now) (a .present .now) (a .refused .now) f))
     (a .payload .now)
     (r .enable-result .ensures)
