@@ -1,5 +1,7 @@
-// Whether a session's counts are well formed (document 01, "State is not well formed when"; number 16): a count over its capacity,
-// enabling with nothing owed, a sum or record list over its bound. Over any limits; no function requires anything.
+// Whether a session's counts are well formed ("State is not well formed when"): a count over its capacity, enabling with nothing owed, a
+// sum or record list over its bound. Over any limits; no function requires anything.
+// Numbers: what 16 and 12 stand for; the answer is a bool.
+// Place: on `tx_list` and `field`; below `phases`, `session` and `numbers`.
 use field::sum_fits;
 use tx_list::State;
 ghost use mathlib.Core.Path.{_≡_};

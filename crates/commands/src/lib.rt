@@ -1,5 +1,6 @@
-// BEM commands to the gateway (module 4), each a message with command A1.
-// Stands on framing; a command's byte is that of its reply. Numbers: 6 (over 253 port P-codes), 7 (an output that is too short); nothing is written then.
+// Commands to the gateway (module 4; Actisense BEM), each a message with command A1.
+// Numbers: 6 (over 253 port P-codes), 7 (an output that is too short).
+// Place: on `framing` and `field`, and on `replies` for its bytes: a command's byte is that of its reply. Below `phases`.
 ghost use mathlib.Core.Path.{_≡_};
 ghost use mathlib.Core.List.{[], _∷_};
 ghost use Rattle.framing.specs.Encode.{toldEncoded};

@@ -1,6 +1,6 @@
-// The bottom layer: numbers in bytes, the lowest byte first, read from a slice and written as an array; and numbers into a lent answer.
-// Framing, records, replies, commands and lists stand above it; specs/ has the definitions and laws that they share.
-// No function here requires anything: a byte past the end of a slice counts as 0.
+// Numbers in bytes, the lowest byte first, read from a slice and written as an array; and numbers into a lent answer.
+// Numbers: none. No function requires anything: a byte past the end of a slice counts as 0.
+// Place: the bottom; it stands on nothing, and every other crate on it. specs/ has the definitions and laws that they share.
 ghost use mathlib.Core.Path.{_≡_};
 ghost use Prim.Native.Nat.{_+_, _≤_, _<_};
 ghost use lib.Dec.{leb};

@@ -1,5 +1,6 @@
-// The firmware version in a gateway's software text (module 3 of document 01): the last word of the form major.minor, times 1000.
-// `firmware_of` takes any bytes; it refuses none.
+// The firmware version in a gateway's software text (module 3): the last word of the form major.minor, times 1000.
+// Numbers: none. `firmware_of` takes any bytes.
+// Place: on `field`; below `product`.
 ghost use mathlib.Core.Path.{_≡_};
 ghost use Prim.Native.Nat.{_+_, _*_, _<_};
 ghost use mathlib.Core.Option.{none, some};

@@ -1,5 +1,6 @@
-// Lists the events of an NGT-1 byte stream from standard input, a line for each. What a line says is proved in report; here bytes are only
-// read, handed on and written.
+// Program: lists the events of an NGT-1 byte stream from standard input, a line for each. Bytes are only read, handed on and written.
+// Numbers: a line's `no` is the event's, 1 to 5.
+// Place: on `report`, where what a line says is proved.
 ghost use Prim.Native.Nat.{_≤_};
 ghost use lib.ListN.{length};
 use libc::STDIN_FILENO;

@@ -1,10 +1,10 @@
 // The 17 numbers of a start-up session in the caller's memory: what stands where, and what one look at them tells.
-// It stands on the states of tx_list and the counts of bounds, beside the session and not above it; the exports for C stand above both.
-// The numbers: 0 phase (0 awaits the start-up's answer, 1 waits to read, 2 reads Format 1, 3 reads Format 2, 4 enables, 5 commits,
-// 6 activates, 7 done); 1 attempt (modulo 2^32); how many there are: 2 wanted, 3 owed, 4 fresh, 5 of the list being read,
-// 6 proprietary, 7 known, 8 saved, 9 present, 10 refused; 11 due time; 12 a list is known (not 0), 13 and whole; 14 the firmware
-// was told, 15 its version (modulo 2^16); 16 no part of Format 2 is in hand.
-// No function requires anything: `state_of` takes a phase over 7 for done, and the exports refuse it before they call it.
+// 0 phase (0 waits for the mode, 1 waits to read, 2 reads Format 1, 3 reads Format 2, 4 enables, 5 commits, 6 activates, 7 done);
+// 1 attempt (modulo 2^32); how many there are: 2 wanted, 3 owed, 4 fresh, 5 of the list being read, 6 proprietary, 7 known, 8 saved,
+// 9 present, 10 refused; 11 due time; 12 a list is known (not 0), 13 and whole; 14 the firmware was told, 15 its version (modulo 2^16);
+// 16 no part of Format 2 is in hand.
+// Numbers: none. No function requires anything: `state_of` takes a phase over 7 for done, and the exports refuse it before they call it.
+// Place: on the states of `tx_list` and the counts of `bounds`, beside `phases`; below `ngt1_session`.
 use bounds::Counts;
 use tx_list::State;
 ghost use mathlib.Core.Path.{_≡_};

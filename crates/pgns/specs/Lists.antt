@@ -18,8 +18,8 @@ unfoldable pub noted : List ℕ → ℕ → List ℕ → ℕ → Buf ℕ
 noted l n ps m = pick (leb (n + m) (length l)) (fill (told n l) (notes (take n l) (take m ps))) (told n l)
 
 -- "the wanted PGNs absent from the list read and from the old present and refused lists", in wanted order with repeats
-abbrev pub owedOf : List ℕ → List ℕ → List ℕ → List ℕ → List ℕ
-owedOf w l p r = owed (λ (x : ℕ). x) w l (record { saved = []; present = p; refused = r })
+abbrev pub owedFrom : List ℕ → List ℕ → List ℕ → List ℕ → List ℕ
+owedFrom w l p r = owed (λ (x : ℕ). x) w l (record { saved = []; present = p; refused = r })
 
 -- those written from the start of dst and their count, where w have room; else nothing, and 0
 unfoldable pub owedIn : List ℕ → ℕ → List ℕ → Buf ℕ

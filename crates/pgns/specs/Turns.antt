@@ -15,7 +15,7 @@ use Rattle.field.specs.FieldLaws.{field-past, field-suc, field-one}
 use Rattle.field.specs.WrittenLaws.{sets-written}
 use Rattle.tx_list.specs.Views.{has, only, note, notes, least, pgnsAt}
 use Rattle.tx_list.specs.Session.{owed}
-use Rattle.pgns.specs.Lists.{told, noted, owedOf, owedIn, skips}
+use Rattle.pgns.specs.Lists.{told, noted, owedFrom, owedIn, skips}
 use Rattle.pgns.specs.PgnsLaws.{only-true, only-false, least-low, least-high}
 use Rattle.tx_list.proofs.Lists.{only-length}
 use Rattle.tx_list.proofs.LiveLists.{has-append}
@@ -259,21 +259,21 @@ neither false true c = refl
 neither false false c = refl
 
 module _ (w l p r : List ℕ) (i : ℕ) (h : i < length w) where
-  owed-turn : owedOf (drop i w) l p r ≡ only (not (skips l p r (getD w i 0))) (getD w i 0) ++ owedOf (drop (i + 1) w) l p r
+  owed-turn : owedFrom (drop i w) l p r ≡ only (not (skips l p r (getD w i 0))) (getD w i 0) ++ owedFrom (drop (i + 1) w) l p r
   unfolding owed skips
   owed-turn =
       let x : ℕ = getD w i 0 in
       let e : not (has x l) && not (has x p) && not (has x (map (λ (y : ℕ). y) r)) ≡ not (has x l || has x p || has x r) =
       ap (λ (o : List ℕ). not (has x l) && not (has x p) && not (has x o)) (map-same r) ∙ neither (has x l) (has x p) (has x r) in
-      rw (add-one i, drop-cons w i 0 h) (ap (λ (t : Bool). only t x ++ owedOf (drop (suc i) w) l p r) e)
+      rw (add-one i, drop-cons w i 0 h) (ap (λ (t : Bool). only t x ++ owedFrom (drop (suc i) w) l p r) e)
 
-  pub owed-kept : skips l p r (getD w i 0) ≡ false → owedOf (drop i w) l p r ≡ getD w i 0 ∷ owedOf (drop (i + 1) w) l p r
-  owed-kept e = owed-turn ∙ ap (λ (o : List ℕ). o ++ owedOf (drop (i + 1) w) l p r) (only-true (getD w i 0) (ap not e))
+  pub owed-kept : skips l p r (getD w i 0) ≡ false → owedFrom (drop i w) l p r ≡ getD w i 0 ∷ owedFrom (drop (i + 1) w) l p r
+  owed-kept e = owed-turn ∙ ap (λ (o : List ℕ). o ++ owedFrom (drop (i + 1) w) l p r) (only-true (getD w i 0) (ap not e))
 
-  pub owed-skipped : skips l p r (getD w i 0) ≡ true → owedOf (drop i w) l p r ≡ owedOf (drop (i + 1) w) l p r
-  owed-skipped e = owed-turn ∙ ap (λ (o : List ℕ). o ++ owedOf (drop (i + 1) w) l p r) (only-false (getD w i 0) (ap not e))
+  pub owed-skipped : skips l p r (getD w i 0) ≡ true → owedFrom (drop i w) l p r ≡ owedFrom (drop (i + 1) w) l p r
+  owed-skipped e = owed-turn ∙ ap (λ (o : List ℕ). o ++ owedFrom (drop (i + 1) w) l p r) (only-false (getD w i 0) (ap not e))
 
-pub owed-end : (w l p r : List ℕ) (i : ℕ) → length w ≤ i → owedOf (drop i w) l p r ≡ []
+pub owed-end : (w l p r : List ℕ) (i : ℕ) → length w ≤ i → owedFrom (drop i w) l p r ≡ []
 unfolding owed
 owed-end w l p r i h = rw (drop-of-length-le w h)
 
@@ -295,8 +295,8 @@ pub owed-full : (l o : List ℕ) (w : ℕ) → length l < w → told 0 l ≡ owe
 unfolding owedIn
 owed-full l o w h = rw (lt-leb w (length l) h)
 
-pub owed-same : {w w′ l l′ p p′ r r′ : List ℕ} → w ≡ w′ → l ≡ l′ → p ≡ p′ → r ≡ r′ → owedOf w l p r ≡ owedOf w′ l′ p′ r′
-owed-same a b c d = λ i. owedOf (a i) (b i) (c i) (d i)
+pub owed-same : {w w′ l l′ p p′ r r′ : List ℕ} → w ≡ w′ → l ≡ l′ → p ≡ p′ → r ≡ r′ → owedFrom w l p r ≡ owedFrom w′ l′ p′ r′
+owed-same a b c d = λ i. owedFrom (a i) (b i) (c i) (d i)
 
 -- What is skipped
 

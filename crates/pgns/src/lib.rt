@@ -1,5 +1,6 @@
-// Lists of PGNs in lent arrays, each with a count (document 01, module 6): looked up, appended, moved down, noted once, owed.
-// Stands below the session. No function requires anything: a count past an array's end counts the array, and what does not fit is dropped.
+// Lists of PGNs in lent arrays, each with a count (module 6): looked up, appended, moved down, noted once, owed.
+// Numbers: none. No function requires anything: a count past an array's end counts the array, and what does not fit is dropped.
+// Place: on `tx_list` and `field`; below `phases`, `session` and `ngt1_session`.
 ghost use mathlib.Core.Path.{_≡_};
 ghost use mathlib.Core.Bool.{not};
 ghost use Prim.Native.Nat.{_+_, _-_, _*_, _≤_, _<_};
@@ -7,7 +8,7 @@ ghost use lib.ListN.{length, take, drop};
 ghost use lib.Seq.{sets};
 ghost use lib.Dec.{leb};
 ghost use Rattle.tx_list.specs.Views as view;
-ghost use Rattle.pgns.specs.Lists.{told, noted, owedOf, owedIn, skips};
+ghost use Rattle.pgns.specs.Lists.{told, noted, owedFrom, owedIn, skips};
 use field::sum_fits;
 
 fn least(a: usize, b: usize) -> usize
@@ -221,8 +222,8 @@ fn owed_each<'a>(
     refused: &'a [u32],
 ) -> usize
     requires { ⌜ length (now wanted) ≤ length (now dst) ⌝ }
-    ensures { λ r. ⌜ r ≡ length (owedOf (now (wanted .entry)) (now (list .entry)) (now (present .entry)) (now (refused .entry))) ⌝ }
-    ensures { λ r. ⌜ now (dst .exit) ≡ sets (now (dst .entry)) 0 (owedOf (now (wanted .entry)) (now (list .entry)) (now (present .entry)) (now (refused .entry))) ⌝ }
+    ensures { λ r. ⌜ r ≡ length (owedFrom (now (wanted .entry)) (now (list .entry)) (now (present .entry)) (now (refused .entry))) ⌝ }
+    ensures { λ r. ⌜ now (dst .exit) ≡ sets (now (dst .entry)) 0 (owedFrom (now (wanted .entry)) (now (list .entry)) (now (present .entry)) (now (refused .entry))) ⌝ }
 {
     let mut k = 0;
     let mut i = 0;
@@ -250,7 +251,7 @@ pub fn owed_into<'a>(
     refused: &'a [u32],
     r: usize,
 ) -> usize
-    ensures { λ n. ⌜ told n (now (dst .exit)) ≡ owedIn (now (dst .entry)) w (owedOf (take w (now (wanted .entry))) (take l (now (list .entry))) (take p (now (present .entry))) (take r (now (refused .entry)))) ⌝ }
+    ensures { λ n. ⌜ told n (now (dst .exit)) ≡ owedIn (now (dst .entry)) w (owedFrom (take w (now (wanted .entry))) (take l (now (list .entry))) (take p (now (present .entry))) (take r (now (refused .entry)))) ⌝ }
 {
     if dst.len() < w {
         return 0;

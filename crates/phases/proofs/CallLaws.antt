@@ -15,7 +15,7 @@ use Rattle.tx_list.specs.declared.State.the-variants.{AwaitStartup, ReadAt, Rea
 use Rattle.tx_list.specs.Reading.{message, tick, Verdict, taken, refuse, unless, vetMessage, vetTick}
 use Rattle.tx_list.specs.Session.{Record, isDone, allLe, oldBounds, begins, lacks}
 use Rattle.tx_list.specs.Stored as stored
-use Rattle.tx_list.specs.Stored.{Answer}
+use Rattle.tx_list.specs.Stored.{CallAnswer}
 use Rattle.tx_list.specs.Memory.{Flat, Sized, phaseIn, absFlat, writeFlat}
 use Rattle.tx_list.specs.Moves.{Moved, soundIn, heard, ticked, withFirmware, givesUp, startsOver, judgeMessage, judgeTick, judgeState, judgeRestart, told}
 use Rattle.field.specs.Tests.{left-true, right-true, and-true, and-assoc}
@@ -40,7 +40,7 @@ pub tick-by :
     → byVerdict v s (ticked kind s t) out ≡ called s (tick t room) out
 tick-by s t room out v z e =
     sym
-    (ap (λ (a : Answer kind store). gave a out) (tick-law kind Sync same same clear frameOf s t room z)
+    (ap (λ (a : CallAnswer kind store). gave a out) (tick-law kind Sync same same clear frameOf s t room z)
     ∙ gave-by (judgeTick kind s t room) s (ticked kind s t) out
     ∙ ap (λ (w : Verdict). byVerdict w s (ticked kind s t) out) e)
 
@@ -51,7 +51,7 @@ pub message-by :
     → byVerdict v s (heard kind (s .state) s t m) out ≡ called s (message t m room) out
 message-by s t m room out v z e =
     sym
-    (ap (λ (a : Answer kind store). gave a out) (message-law kind Sync same same clear frameOf s t m room z)
+    (ap (λ (a : CallAnswer kind store). gave a out) (message-law kind Sync same same clear frameOf s t m room z)
     ∙ gave-by (judgeMessage kind s t m room) s (heard kind (s .state) s t m) out
     ∙ ap (λ (w : Verdict). byVerdict w s (heard kind (s .state) s t m) out) e)
 

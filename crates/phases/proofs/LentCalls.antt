@@ -10,7 +10,7 @@ use borrow.Author.Tests.{not-true, not-false, le-leb, lt-leb, le-ltb, leb-true}
 use Rattle.field.specs.Pick.{pick}
 use Rattle.field.specs.Tests.{left-true, right-true}
 use Rattle.lists.specs.declared.F2List.{F2List}
-use Rattle.views.specs.ViewsLaws.{f1-other, f2-alien}
+use Rattle.views.specs.ViewsLaws.{f1-other, f2-other}
 use Rattle.tx_list.specs.declared.State.{State}
 use Rattle.tx_list.specs.declared.State.the-variants.{AwaitStartup, ReadAt, ReadingF2, Reading as ReadingF1, Enabling, Committing, Activating, Done}
 use Rattle.tx_list.specs.Views.{parsed, noError, F1, added, F2, isAnswer, ackBy, ackOf}
@@ -147,7 +147,7 @@ heard-quiet : (st : State) (h : Flat F2List ℕ) (t : ℕ) (m : List ℕ) → mi
 unfolding heard mindsIn inF1 inF2 isAnswer ackOf ackBy committed activated
 heard-quiet AwaitStartup h t m e = ap (λ (y : Bool). pick y (waitsFrom kind h t) (stays h)) e
 heard-quiet ReadAt h t m e = refl
-heard-quiet (ReadingF2 n) h t m e = ap (λ (v : F2). inF2 kind v h t m) (sym (f2-alien m e))
+heard-quiet (ReadingF2 n) h t m e = ap (λ (v : F2). inF2 kind v h t m) (sym (f2-other m e))
 heard-quiet (ReadingF1 n) h t m e = ap (λ (v : F1). inF1 kind v h t) (sym (f1-other m e))
 heard-quiet Enabling h t m e = ap (λ (y : Bool). pick y (answered kind h t m) (stays h)) e
 heard-quiet Committing h t m e = ap (λ (y : Bool). committed kind (ackBy y false (parsed m && noError m)) h t) e

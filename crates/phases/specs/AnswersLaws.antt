@@ -12,6 +12,7 @@ use Rattle.tx_list.specs.Memory.{Buf, live, Flat}
 use Rattle.tx_list.specs.Moves.{pushIf, withKnown, withRecord, withOwed, heard, answered, goesOn, oldest, marks, stays, committed, activated}
 use Rattle.tx_list.specs.declared.State.the-variants.{Enabling, Committing, Activating}
 use Rattle.phases.specs.Sync.{kind}
+use Rattle.phases.specs.declared.answers.Tests.{Tests}
 
 -- error 0
 unfoldable pub isNow : Answer → Bool
@@ -25,22 +26,23 @@ fresh-now enabled p l = refl
 fresh-now there p l = refl
 fresh-now denied p l = refl
 
+-- what an answer passes
+abbrev pub testsOf : Answer → Tests
+testsOf a = record { good = isGood a; now = isNow a; there = isThere a; denied = isDenied a }
+
 -- the known list, the record and the fresh ones after an answer to p: each pushed to where its test passed
-pub marked : (h : Flat F2List ℕ) (m : List ℕ) {a : Answer} {p : ℕ} {isgood isnow isthere isdenied lacked unsaved : Bool} {k r q u : Buf ℕ}
+pub marks-is : (h : Flat F2List ℕ) (m : List ℕ) {a : Answer} {x : Tests} {p : ℕ} {lacked unsaved : Bool} {k r q u : Buf ℕ}
     → a ≡ answerOf m
+    → x ≡ testsOf a
     → p ≡ oldest kind h
-    → isgood ≡ isGood a
-    → isnow ≡ isNow a
-    → isthere ≡ isThere a
-    → isdenied ≡ isDenied a
-    → lacked ≡ ((h .isKnown && isgood) && not (has p (live (h .known))))
-    → unsaved ≡ (isnow && not (has p (live (h .saved))))
+    → lacked ≡ ((h .isKnown && x .good) && not (has p (live (h .known))))
+    → unsaved ≡ (x .now && not (has p (live (h .saved))))
     → k ≡ pushIf lacked (h .known) p
-    → r ≡ pushIf isthere (h .present) p
-    → q ≡ pushIf isdenied (h .refused) p
+    → r ≡ pushIf (x .there) (h .present) p
+    → q ≡ pushIf (x .denied) (h .refused) p
     → u ≡ pushIf unsaved (h .fresh) p
     → withOwed (withRecord (withKnown h (h .isKnown) (h .complete) k) (h .saved) r q) (h .owed) u ≡ marks kind h m (answerOf m)
-marked h m ea ep eg en et ed el es ek er eq eu = rw (ek, er, eq, eu, el, es, eg, en, et, ed, ea, ep, and-assoc, fresh-now)
+marks-is h m ea ex ep el es ek er eq eu = rw (ek, er, eq, eu, el, es, ex, ea, ep, and-assoc, fresh-now)
 
 -- the answer to commit or activate, by its first byte
 ack-good : (b : ℕ) (m : List ℕ) → starts b m ≡ true → ackOf false b m ≡ good

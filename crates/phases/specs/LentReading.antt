@@ -6,7 +6,7 @@ use mathlib.Core.Bool.{Bool, true}
 use mathlib.Core.List.{List, [], _∷_}
 use lib.ListN.{length, take, getD}
 use lib.Seq.{sets, length-sets, length-take-le}
-use Rattle.pgns.specs.Lists.{told, noted, owedOf, owedIn}
+use Rattle.pgns.specs.Lists.{told, noted, owedFrom, owedIn}
 use Rattle.lists.specs.declared.F2List.{F2List}
 use Rattle.tx_list.specs.Views.{groupCount, pgnsAt, listPgns}
 use Rattle.tx_list.specs.Reading.{enable}
@@ -43,7 +43,7 @@ adds-in x m t count old new c e g w o u k s p q f =
 
 -- the PGNs owed, written from O to O′
 module _ (x : Numbers) (n t : ℕ) (W O O′ K P Q : List ℕ) (count : ℕ)
-    (e : told count O′ ≡ owedIn O (x .totals .counts .wanted) (owedOf (take (x .totals .counts .wanted) W) (take n K) (take (x .totals .counts .present) P) (take (x .totals .counts .refused) Q)))
+    (e : told count O′ ≡ owedIn O (x .totals .counts .wanted) (owedFrom (take (x .totals .counts .wanted) W) (take n K) (take (x .totals .counts .present) P) (take (x .totals .counts .refused) Q)))
     (h : x .totals .counts .wanted ≤ length O) where
   abbrev Asks : List ℕ → List ℕ → List ℕ → F2List → Stepped
   Asks u l s f = stepOf (asks kind (syncOf x (lent W O u l K s P Q f)) (owing kind (syncOf x (lent W O u l K s P Q f)) (take n K)) t)

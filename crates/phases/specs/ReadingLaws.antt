@@ -13,7 +13,7 @@ use lib.Seq.{sets, take-append-seam, take-append-le}
 use Rattle.field.specs.Pick.{pick}
 use Rattle.field.specs.WrittenLaws.{sets-written}
 use Rattle.replies.specs.Bem.{dataOf}
-use Rattle.pgns.specs.Lists.{told, noted, owedOf, owedIn}
+use Rattle.pgns.specs.Lists.{told, noted, owedFrom, owedIn}
 use Rattle.tx_list.proofs.Lists.{owed-length}
 use Rattle.pgns.specs.PgnsLaws.{owed-saved, fresh, fresh-length, notes-front, notes-after-fill}
 use Rattle.views.specs.declared.F1Kind.{F1Kind}
@@ -84,7 +84,7 @@ sets-front (x ∷ xs) dst z h = ap (λ (l : List ℕ). getD l 0 0) (sets-written
 -- what the code counts as owed: the saved list is not looked at
 abbrev pub owedBy : Sync → List ℕ → List ℕ
 owedBy s l =
-    owedOf (take (s .wanted .n) (s .wanted .items)) l (take (s .present .n) (s .present .items))
+    owedFrom (take (s .wanted .n) (s .wanted .items)) l (take (s .present .n) (s .present .items))
     (take (s .refused .n) (s .refused .items))
 
 owed-by : (s : Sync) (l : List ℕ) → owing kind s l ≡ owedBy s l

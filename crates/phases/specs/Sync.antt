@@ -16,7 +16,7 @@ use Rattle.tx_list.specs.Reading.{Command, read1, read40, read4F, enable, commi
 use Rattle.tx_list.specs.Session as model
 use Rattle.tx_list.specs.Session.{Record, isDone}
 use Rattle.tx_list.specs.Stored as stored
-use Rattle.tx_list.specs.Stored.{Store, Answer, new, again, opens}
+use Rattle.tx_list.specs.Stored.{Store, CallAnswer, new, again, opens}
 use Rattle.tx_list.specs.Memory.{Buf, live, Flat, absFlat, storeBy, clearFlat, counts}
 use Rattle.tx_list.specs.Moves.{Moved}
 use Rattle.tx_list.specs.declared.State.{State}
@@ -116,7 +116,7 @@ pub record Told : Type 0 where
   pub out : List ℕ
 
 -- "a lent slice and a count; bytes after the count are kept": the bytes of an answer at the start of the output
-abbrev pub gave : Answer kind store → List ℕ → Told
+abbrev pub gave : CallAnswer kind store → List ℕ → Told
 gave a out = record { number = a .no; count = length (a .bytes); sync = a .kept; out = written (a .bytes) out }
 
 -- THE CONTRACT of message and tick
@@ -129,7 +129,7 @@ pub record Begun : Type 0 where
   pub sync : Sync
 
 -- an answer without bytes
-abbrev pub begun : Answer kind store → Begun
+abbrev pub begun : CallAnswer kind store → Begun
 begun a = record { number = a .no; sync = a .kept }
 
 -- of set_firmware, restart, abandon, begin

@@ -17,12 +17,12 @@ ghost use Prim.Native.Nat.{ℕ, _≤_, _<_, _+_};
 ghost use lib.ListN.{length, take, getD};
 ghost use Rattle.lists.specs.declared.F2List.{F2List};
 ghost use Rattle.pgns.specs.Lists.{told};
-ghost use Rattle.tx_list.specs.Views.{has, isGood, isThere, isDenied, answerOf, good};
+ghost use Rattle.tx_list.specs.Views.{has, answerOf, good};
 ghost use Rattle.tx_list.specs.Moves.{pushIf, marks, goesOn, asksNext, closes, commits, committed, activated, heard};
 ghost use Rattle.views.specs.Told.{toldResult};
 ghost use Rattle.phases.specs.Sync.{kind, stepOf};
 ghost use Rattle.phases.specs.Lent.{Arrays, lent, syncOf, toldStep, awaiting};
-ghost use Rattle.phases.specs.AnswersLaws.{isNow};
+ghost use Rattle.phases.specs.AnswersLaws.{testsOf};
 
 // The PGN stored after the first n, where a test passed; answers the new count.
 fn push_if(list: &mut [u32], n: usize, yes: bool, pgn: u32) -> usize
@@ -46,43 +46,36 @@ fn absent(list: &[u32], n: usize, yes: bool, pgn: u32) -> bool
     !pgns::has(list, n, pgn)
 }
 
-fn is_good(a: EnableResult) -> bool
-    ensures { λ r. ⌜ r ≡ isGood (toldResult a) ⌝ }
-{
-    match a {
-        EnableResult::Now => true,
-        EnableResult::Already => true,
-        EnableResult::Refused => false,
-    }
+// What an answer passes: good, enabled now, already there, refused.
+struct Tests {
+    good: bool,
+    now: bool,
+    there: bool,
+    denied: bool,
 }
 
-fn is_there(a: EnableResult) -> bool
-    ensures { λ r. ⌜ r ≡ isThere (toldResult a) ⌝ }
+fn tests_of(a: EnableResult) -> Tests
+    ensures { λ r. ⌜ r ≡ testsOf (toldResult a) ⌝ }
 {
     match a {
-        EnableResult::Now => false,
-        EnableResult::Already => true,
-        EnableResult::Refused => false,
-    }
-}
-
-fn is_denied(a: EnableResult) -> bool
-    ensures { λ r. ⌜ r ≡ isDenied (toldResult a) ⌝ }
-{
-    match a {
-        EnableResult::Now => false,
-        EnableResult::Already => false,
-        EnableResult::Refused => true,
-    }
-}
-
-fn is_now(a: EnableResult) -> bool
-    ensures { λ r. ⌜ r ≡ isNow (toldResult a) ⌝ }
-{
-    match a {
-        EnableResult::Now => true,
-        EnableResult::Already => false,
-        EnableResult::Refused => false,
+        EnableResult::Now => Tests {
+            good: true,
+            now: true,
+            there: false,
+            denied: false,
+        },
+        EnableResult::Already => Tests {
+            good: true,
+            now: false,
+            there: true,
+            denied: false,
+        },
+        EnableResult::Refused => Tests {
+            good: false,
+            now: false,
+            there: false,
+            denied: true,
+        },
     }
 }
 
@@ -101,14 +94,14 @@ fn mark(
     requires { ⌜ (x .totals .counts .known < 1344) × (x .totals .counts .present < 256) × (x .totals .counts .refused < 256) × (x .totals .counts .fresh < 64) ⌝ }
     ensures { λ r. ⌜ ((w o l : List ℕ) (f : F2List) → pgn ≡ getD o 0 0 → syncOf r (lent w o (now (fresh .exit)) l (now (known .exit)) (now (saved .entry)) (now (present .exit)) (now (refused .exit)) f) ≡ (marks kind (syncOf x (lent w o (now (fresh .entry)) l (now (known .entry)) (now (saved .entry)) (now (present .entry)) (now (refused .entry)) f)) (now (payload .entry)) (answerOf (now (payload .entry))))) ⌝ }
 {
-    let a = views::enable_result(payload);
+    let said = tests_of(views::enable_result(payload));
     let mut t = x.totals;
     let c = t.counts;
-    let lacked = absent(known, c.known, t.read & is_good(a), pgn);
-    let unsaved = absent(saved, c.saved, is_now(a), pgn);
+    let lacked = absent(known, c.known, t.read & said.good, pgn);
+    let unsaved = absent(saved, c.saved, said.now, pgn);
     let k = push_if(known, c.known, lacked, pgn);
-    let p = push_if(present, c.present, is_there(a), pgn);
-    let q = push_if(refused, c.refused, is_denied(a), pgn);
+    let p = push_if(present, c.present, said.there, pgn);
+    let q = push_if(refused, c.refused, said.denied, pgn);
     let u = push_if(fresh, c.fresh, unsaved, pgn);
     t.counts.known = k;
     t.counts.present = p;

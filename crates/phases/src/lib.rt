@@ -1,9 +1,9 @@
-// The phases of the transmit-list session (document 01, module 6): what a message, a tick and every other call does, over a session's
-// numbers and its arrays lent one by one (`Numbers`, in_place.rt). Nothing is copied; commands go into a lent output of 32 bytes or more,
-// end to end. `session` above it has the session as a value; `ngt1_session` has it for C and Rust.
-// Stands on lists (Format 2), views (what a message says), pgns, commands and framing; specs/Sync ties it to the model of tx_list.
-// Numbers: 6 message over 255 bytes, 7 output under 32, 11 over 64 wanted, 12 a record list over 192, 13 tick over the limit,
-// 14 Format 1 list over 1,024, 16 state not well formed. A refusal changes nothing.
+// The phases of the transmit-list session (module 6): what a message, a tick and every other call does, over a session's numbers and its
+// arrays lent one by one (`Numbers`, in_place.rt). Nothing is copied; commands go into a lent output of 32 bytes or more, end to end.
+// Numbers: 6 message over 255 bytes, 7 output under 32, 11 over 64 wanted, 12 a record list over 192, 13 time over the limit, 14 Format 1
+// list over 1,024, 16 state not well formed; 100 a message that is for the other of `message` and `part`. A refusal changes nothing.
+// Place: on `lists`, `views`, `pgns`, `bounds`, `commands`, `framing`, `replies` and the model, `tx_list` (specs/Sync ties it to that);
+// below `session`, which has the session as a value, and `ngt1_session`, which has it for C and Rust.
 mod answers;
 mod in_place;
 mod opening;

@@ -130,7 +130,7 @@ pub(crate) fn on_f2(
     match kind {
         F2Kind::Wrong => with_parts(start_f1(x, 1, time), f2),
         F2Kind::Part => on_part(x, f2, wanted, owed, known, present, refused, time, payload),
-        F2Kind::Alien => PartStep {
+        F2Kind::Neither => PartStep {
             sent: Sent::Nothing,
             numbers: x,
             f2,

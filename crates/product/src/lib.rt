@@ -1,6 +1,7 @@
-// A gateway's product information, put together from its replies.
-// Newer firmware answers at once (sequence 6), older firmware in five parts (sequences 1 to 5).
-// Numbers: 16, a text's count passes its capacity; 15, a byte 80 to FE before the end of a text that the reply would set.
+// A gateway's product information, put together from its replies (module 3): newer firmware answers at once (sequence 6), older firmware
+// in five parts (sequences 1 to 5).
+// Numbers: 16 (a text's count passes its capacity), 15 (a byte 80 to FE before the end of a text that the reply would set).
+// Place: on `texts`, `firmware` and `field`; below the programs that read replies.
 ghost use mathlib.Core.Path.{_≡_};
 ghost use Prim.Native.Nat.{_≤_};
 ghost use lib.ListN.{length, take};

@@ -1,5 +1,6 @@
 // N2K records (module 2): a frame sent to the bus (command 94), and one received from it (command 93).
-// Stands on framing. Numbers: 6, 7 (encoders), 9, 8, 10 (reading a record).
+// Numbers: 6, 7 (encoders); 9, 8, 10 (reading a record).
+// Place: on `framing` and `field`; below `ngt1`.
 ghost use mathlib.Core.Path.{_≡_};
 ghost use Rattle.framing.specs.Encode.{toldEncoded};
 ghost use Rattle.records.specs.Record.{sendEncoded, receivedEncoded, refusal, frameRead, frameData};

@@ -1,5 +1,7 @@
-// Replays the calls of modules 2 and 3 that read (oracle/FORMAT.md): a script from standard input, a block of 65,536 bytes at a time,
-// each from nothing. What the calls do is proved in records, replies and product; here they are only read, made and answered.
+// Program: replays the calls of modules 2 and 3 that read (oracle/FORMAT.md), a script from standard input, a block of 65,536 bytes at a time,
+// each from nothing.
+// Numbers: those of the calls, in the answers. The calls are only read, made and answered.
+// Place: on `transcript`, and on `records`, `replies` and `product`, where what the calls do is proved.
 use libc::STDIN_FILENO;
 use libc::STDOUT_FILENO;
 use transcript::first;

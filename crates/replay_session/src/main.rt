@@ -1,5 +1,7 @@
-// Replays the calls of modules 5 and 6 (oracle/FORMAT.md): a script from standard input, a block of 65,536 bytes at a time, each from
-// nothing. What the calls do is proved in session and lists; here they are only read, made and answered.
+// Program: replays the calls of modules 5 and 6 (oracle/FORMAT.md), a script from standard input, a block of 65,536 bytes at a time, each from
+// nothing.
+// Numbers: those of the calls, in the answers. The calls are only read, made and answered.
+// Place: on `transcript`, and on `session` and `lists`, where what the calls do is proved.
 use libc::STDIN_FILENO;
 use libc::STDOUT_FILENO;
 use transcript::first;

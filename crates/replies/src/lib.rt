@@ -1,6 +1,7 @@
-// Replies of the gateway (Actisense BEM): a reply taken apart, the operating mode that it reports, and the start-up status.
-// This layer stands on `field` for its readers and sees a payload alone; that a framed reply arrives is in claims/specs/Arrival. The session sees its contracts and laws only.
-// Number: refusal 8 (a reply under 12 bytes, start-up data under 3).
+// Replies of the gateway (module 3; Actisense BEM): a reply taken apart, the operating mode that it reports, the start-up status.
+// Numbers: 8 (a reply under 12 bytes, start-up data under 3).
+// Place: on `field`; it sees a payload alone, and that a framed reply arrives is claims/specs/Arrival.
+// Below `commands`, `tx_list`, `views` and `phases`.
 mod bem; // bem.rt: a reply's header and its data
 mod mode; // mode.rt: operating modes
 mod startup; // startup.rt: the start-up status

@@ -26,7 +26,7 @@ use Rattle.tx_list.specs.Reading.{Command, read1, read40, read4F, enable, commi
 use Rattle.field.specs.Fields.{bytesOf}
 use Rattle.tx_list.specs.Session.{Record, Session, allLe, oldBounds, begin, beginBy, restart, step, gate, soundly, onFirmware, wellFormed}
 use Rattle.tx_list.specs.Stored as stored
-use Rattle.tx_list.specs.Stored.{Answer, answer, Ran′, runs, wire, then, new, again, opens, Faithful, Demand3-kept, wanted′, old′, Shown}
+use Rattle.tx_list.specs.Stored.{CallAnswer, answer, Ran′, runs, wire, then, new, again, opens, Faithful, Demand3-kept, wanted′, old′, Shown}
 use Rattle.tx_list.proofs.Demand3.{Lawful}
 use Rattle.tx_list.proofs.Lists.{allLe-true}
 use Rattle.tx_list.proofs.Kept.{demand3-kept}
@@ -56,10 +56,10 @@ faithful =
 
 -- the calls played are the run
 
-told-kept : (a : Answer kind store) (out : List ℕ) (r : Told) → r ≡ gave a out → r .sync ≡ a .kept
+told-kept : (a : CallAnswer kind store) (out : List ℕ) (r : Told) → r ≡ gave a out → r .sync ≡ a .kept
 told-kept a out r e = ap (λ (t : Told). t .sync) e
 
-told-bytes : (a : Answer kind store) (out : List ℕ) (r : Told) → r ≡ gave a out → take (r .count) (r .out) ≡ a .bytes
+told-bytes : (a : CallAnswer kind store) (out : List ℕ) (r : Told) → r ≡ gave a out → take (r .count) (r .out) ≡ a .bytes
 told-bytes a out r e =
     let n : r .count ≡ length (a .bytes) = ap (λ (t : Told). t .count) e in
     let o : r .out ≡ written (a .bytes) out = ap (λ (t : Told). t .out) e in
@@ -100,12 +100,12 @@ unfolding runs
 played-runs {s} before none = ap (from s) (sym (append-nil before))
 played-runs {s} {last} before (message′ {calls = calls} {bytes = bytes} r time payload out e p) =
     let x : Call = message time payload (length out) in
-    let a : Answer kind store = stored.called kind store s x in
+    let a : CallAnswer kind store = stored.called kind store s x in
     run-on s (r .sync) last x calls before (take (r .count) (r .out)) bytes (told-kept a out r e) (told-bytes a out r e)
     (played-runs (before ++ take (r .count) (r .out)) p)
 played-runs {s} {last} before (tick′ {calls = calls} {bytes = bytes} r time out e p) =
     let x : Call = tick time (length out) in
-    let a : Answer kind store = stored.called kind store s x in
+    let a : CallAnswer kind store = stored.called kind store s x in
     run-on s (r .sync) last x calls before (take (r .count) (r .out)) bytes (told-kept a out r e) (told-bytes a out r e)
     (played-runs (before ++ take (r .count) (r .out)) p)
 played-runs {s} {last} before (firmware′ {calls = calls} {bytes = bytes} r version e p) =

@@ -1,8 +1,8 @@
-// The transmit-list session (document 01, module 6) as a value that goes in and comes back: `TxListSync`.
-// It reads the gateway's transmit list and has it transmit what is wanted. Each call takes the struct apart, calls the function of that
-// name in `phases`, and puts it together again; the contracts are those of `phases`, of what the struct holds (specs/Whole).
-// specs/Played and specs/StartUp have demand 3 and the start-up of every run, of this form and of the lent one.
-// Commands go into a lent output of 32 bytes or more, end to end. Numbers: those of `phases` (6, 7, 11 to 14, 16). A refusal changes nothing.
+// The transmit-list session (module 6) as a value that goes in and comes back: `TxListSync`. It reads the gateway's transmit list and has it
+// transmit what is wanted; commands go into a lent output of 32 bytes or more, end to end. Each call takes the struct apart, calls the
+// function of that name in `phases`, and puts it together again. specs/Played and specs/StartUp have demand 3 and the start-up of every run.
+// Numbers: those of `phases` but 100 (6, 7, 11 to 14, 16). A refusal changes nothing.
+// Place: on `phases` and what that stands on; on top, below `claims` and the programs.
 mod opening;
 mod whole;
 

@@ -1,6 +1,7 @@
-// A text of a reply: at most 32 bytes and a count, by value; the bytes after the count are 0.
+// A text of a reply (module 3): at most 32 bytes and a count, by value; the bytes after the count are 0.
 // It is read from its 32 bytes of a reply's data: cut before the first 00 or FF, trimmed at both ends.
-// Number: 15, a byte 80 to FE before a text's end.
+// Numbers: 15 (a byte 80 to FE before a text's end).
+// Place: on `field`; below `product`.
 ghost use mathlib.Core.Path.{_≡_};
 ghost use Prim.Native.Nat.{_≤_};
 ghost use lib.ListN.{length};

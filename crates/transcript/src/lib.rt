@@ -1,5 +1,7 @@
 // What replay programs share: reading a script of calls and writing a transcript of answers (oracle/FORMAT.md).
-// A transcript is a lent slice and the place up to which it is written. No function here requires anything: what does not fit is dropped.
+// A transcript is a lent slice and the place up to which it is written.
+// Numbers: none. No function requires anything: what does not fit is dropped.
+// Place: on `field`; below the programs replay_..
 ghost use Prim.Native.Nat.{_-_, _%_, _<_, min};
 ghost use mathlib.Core.Path.{_≡_};
 ghost use lib.ListN.{drop, replicate, take};

@@ -13,8 +13,8 @@ use Rattle.field.specs.Fields.{field, signed32}
 use Rattle.replies.specs.Bem.{headerOf, dataOf}
 use Rattle.replies.specs.Modes.{foundMode, modeOf}
 use Rattle.tx_list.specs.Views.{has, only, note, notes, starts, sequence, parsed, isZero, isAlready, noError, isFound, isMode, pgnsAt, least, groupCount, listPgns, f1By, f1Of, added, f2By, f2Of, answerBy, isAnswer, answerOf, isDenied, isThere, isGood, isFresh, ackBy, ackOf}
-use Rattle.tx_list.specs.Reading.{read1, read40, read4F, enable, commit, activate, Kind, Call, message, tick, firmware, unless, vetMessage, vetTick, full, readMessage, readTick, onMode, onF1, onWhole, onF2, start1, start2, opens, again1, again2, whenDue, isNew}
-use Rattle.tx_list.specs.Session.{Record, unknown, done, Ran, begins, run, settle, step, gate, onFirmware, full14, onTick, expire, onMessage, onActivate, onCommit, onAnswer, onNext, onTurn, opened, knowing, becomes, wellFormed, countsFit, counts, phaseCounts, partsOkay, owes, sums, sumsFit, knownMax, kept, marked, learn, owed}
+use Rattle.tx_list.specs.Reading.{read1, read40, read4F, enable, commit, activate, Kind, Call, message, tick, firmware, unless, vetMessage, vetTick, full, readMessage, readTick, onMode, onF1, onWhole, onF2, start1, start2, startRead, again1, again2, whenDue, isNew}
+use Rattle.tx_list.specs.Session.{Record, unknown, done, Ran, begins, run, settle, step, gate, onFirmware, full14, onTick, expire, onMessage, onActivate, onCommit, onAnswer, onNext, onTurn, onList, knowing, becomes, wellFormed, countsFit, counts, phaseCounts, partsOkay, owes, sums, sumsFit, knownMax, withSaved, marked, learn, owed}
 use Rattle.tx_list.proofs.Demand3.{Lawful}
 
 -- a small session that reads Format 1 only
@@ -89,12 +89,12 @@ ended : Small
 ended = run small committed activates-them
 
 sent-is : ended .sent ≡ read1 ∷ enable 7 ∷ enable 7 ∷ enable 13 ∷ enable 14 ∷ commit ∷ activate ∷ []
-unfolding ended committed before reads-list enables-all activates-them run settle step gate onTick expire onMessage onActivate onCommit onAnswer onNext onTurn opened knowing becomes unknown wellFormed countsFit counts phaseCounts partsOkay owes sums sumsFit knownMax kept marked learn owed begins full14 has only note notes starts sequence parsed isZero isAlready noError isFound isMode pgnsAt least groupCount listPgns f1By f1Of added answerBy isAnswer answerOf isDenied isThere isGood isFresh ackBy ackOf unless vetMessage vetTick full readMessage readTick onMode onF1 start1 opens again1 whenDue isNew field signed32 headerOf dataOf foundMode modeOf
+unfolding ended committed before reads-list enables-all activates-them run settle step gate onTick expire onMessage onActivate onCommit onAnswer onNext onTurn onList knowing becomes unknown wellFormed countsFit counts phaseCounts partsOkay owes sums sumsFit knownMax withSaved marked learn owed begins full14 has only note notes starts sequence parsed isZero isAlready noError isFound isMode pgnsAt least groupCount listPgns f1By f1Of added answerBy isAnswer answerOf isDenied isThere isGood isFresh ackBy ackOf unless vetMessage vetTick full readMessage readTick onMode onF1 start1 startRead again1 whenDue isNew field signed32 headerOf dataOf foundMode modeOf
 sent-is = refl
 
 -- nothing is saved until activation is answered
 committed-is : committed .session .rec ≡ record { saved = 14 ∷ []; present = 11 ∷ 7 ∷ []; refused = 9 ∷ 13 ∷ [] }
-unfolding ended committed before reads-list enables-all activates-them run settle step gate onTick expire onMessage onActivate onCommit onAnswer onNext onTurn opened knowing becomes unknown wellFormed countsFit counts phaseCounts partsOkay owes sums sumsFit knownMax kept marked learn owed begins full14 has only note notes starts sequence parsed isZero isAlready noError isFound isMode pgnsAt least groupCount listPgns f1By f1Of added answerBy isAnswer answerOf isDenied isThere isGood isFresh ackBy ackOf unless vetMessage vetTick full readMessage readTick onMode onF1 start1 opens again1 whenDue isNew field signed32 headerOf dataOf foundMode modeOf
+unfolding ended committed before reads-list enables-all activates-them run settle step gate onTick expire onMessage onActivate onCommit onAnswer onNext onTurn onList knowing becomes unknown wellFormed countsFit counts phaseCounts partsOkay owes sums sumsFit knownMax withSaved marked learn owed begins full14 has only note notes starts sequence parsed isZero isAlready noError isFound isMode pgnsAt least groupCount listPgns f1By f1Of added answerBy isAnswer answerOf isDenied isThere isGood isFresh ackBy ackOf unless vetMessage vetTick full readMessage readTick onMode onF1 start1 startRead again1 whenDue isNew field signed32 headerOf dataOf foundMode modeOf
 committed-is = refl
 
 ended-is :
@@ -107,7 +107,7 @@ ended-is :
       deadline = 13600;
       firmware = none;
     }
-unfolding ended committed before reads-list enables-all activates-them run settle step gate onTick expire onMessage onActivate onCommit onAnswer onNext onTurn opened knowing becomes unknown wellFormed countsFit counts phaseCounts partsOkay owes sums sumsFit knownMax kept marked learn owed begins full14 has only note notes starts sequence parsed isZero isAlready noError isFound isMode pgnsAt least groupCount listPgns f1By f1Of added answerBy isAnswer answerOf isDenied isThere isGood isFresh ackBy ackOf unless vetMessage vetTick full readMessage readTick onMode onF1 start1 opens again1 whenDue isNew field signed32 headerOf dataOf foundMode modeOf
+unfolding ended committed before reads-list enables-all activates-them run settle step gate onTick expire onMessage onActivate onCommit onAnswer onNext onTurn onList knowing becomes unknown wellFormed countsFit counts phaseCounts partsOkay owes sums sumsFit knownMax withSaved marked learn owed begins full14 has only note notes starts sequence parsed isZero isAlready noError isFound isMode pgnsAt least groupCount listPgns f1By f1Of added answerBy isAnswer answerOf isDenied isThere isGood isFresh ackBy ackOf unless vetMessage vetTick full readMessage readTick onMode onF1 start1 startRead again1 whenDue isNew field signed32 headerOf dataOf foundMode modeOf
 ended-is = refl
 
 -- one that reads in three parts first, each a PGN in its thirteenth byte
@@ -131,15 +131,15 @@ threefold =
 unwritten : Record ℕ
 unwritten = record { saved = []; present = []; refused = [] }
 
-opens-two : List Call
-opens-two =
+reads-two : List Call
+reads-two =
     firmware 2500
     ∷ message 1000 (0x11 ∷ 0 ∷ 0 ∷ 0 ∷ 0 ∷ 0 ∷ 0 ∷ 0 ∷ 0 ∷ 0 ∷ 0 ∷ 0 ∷ 2 ∷ 0 ∷ []) 32
     ∷ tick 3000 32
     ∷ []
 
 after : List Call → Ran (List ℕ) ℕ
-after calls = run threefold (record { session = begins threefold (5 ∷ 8 ∷ []) unwritten; sent = [] }) (opens-two ++ calls)
+after calls = run threefold (record { session = begins threefold (5 ∷ 8 ∷ []) unwritten; sent = [] }) (reads-two ++ calls)
 
 -- all three parts
 told : List Call
@@ -151,11 +151,11 @@ told =
     ∷ []
 
 told-sent : after told .sent ≡ read40 ∷ read4F ∷ enable 8 ∷ []
-unfolding after unwritten opens-two told run settle step gate onTick onFirmware expire onMessage onTurn opened knowing becomes unknown wellFormed countsFit counts phaseCounts partsOkay owes sums sumsFit knownMax owed begins full14 has only note notes starts sequence parsed isZero noError isFound isMode pgnsAt least groupCount listPgns f1By f1Of added f2By f2Of unless vetMessage vetTick full readMessage readTick onMode onF1 onF2 onWhole start1 start2 opens again1 again2 whenDue isNew field signed32 headerOf dataOf foundMode modeOf
+unfolding after unwritten reads-two told run settle step gate onTick onFirmware expire onMessage onTurn onList knowing becomes unknown wellFormed countsFit counts phaseCounts partsOkay owes sums sumsFit knownMax owed begins full14 has only note notes starts sequence parsed isZero noError isFound isMode pgnsAt least groupCount listPgns f1By f1Of added f2By f2Of unless vetMessage vetTick full readMessage readTick onMode onF1 onF2 onWhole start1 start2 startRead again1 again2 whenDue isNew field signed32 headerOf dataOf foundMode modeOf
 told-sent = refl
 
 told-known : after told .session .known ≡ record { isRead = true; isWhole = true; pgns = 5 ∷ 6 ∷ 7 ∷ [] }
-unfolding after unwritten opens-two told run settle step gate onTick onFirmware expire onMessage onTurn opened knowing becomes unknown wellFormed countsFit counts phaseCounts partsOkay owes sums sumsFit knownMax owed begins full14 has only note notes starts sequence parsed isZero noError isFound isMode pgnsAt least groupCount listPgns f1By f1Of added f2By f2Of unless vetMessage vetTick full readMessage readTick onMode onF1 onF2 onWhole start1 start2 opens again1 again2 whenDue isNew field signed32 headerOf dataOf foundMode modeOf
+unfolding after unwritten reads-two told run settle step gate onTick onFirmware expire onMessage onTurn onList knowing becomes unknown wellFormed countsFit counts phaseCounts partsOkay owes sums sumsFit knownMax owed begins full14 has only note notes starts sequence parsed isZero noError isFound isMode pgnsAt least groupCount listPgns f1By f1Of added f2By f2Of unless vetMessage vetTick full readMessage readTick onMode onF1 onF2 onWhole start1 start2 startRead again1 again2 whenDue isNew field signed32 headerOf dataOf foundMode modeOf
 told-known = refl
 
 -- three attempts of each kind, each 10,000 ms
@@ -173,11 +173,11 @@ silent =
 
 silent-sent :
     after silent .sent ≡ read40 ∷ read4F ∷ read40 ∷ read4F ∷ read40 ∷ read4F ∷ read1 ∷ read1 ∷ read1 ∷ []
-unfolding after unwritten opens-two silent run settle step gate onTick onFirmware expire onMessage onTurn opened knowing becomes unknown wellFormed countsFit counts phaseCounts partsOkay owes sums sumsFit knownMax owed begins full14 has only note notes starts sequence parsed isZero noError isFound isMode pgnsAt least groupCount listPgns f1By f1Of added f2By f2Of unless vetMessage vetTick full readMessage readTick onMode onF1 onF2 onWhole start1 start2 opens again1 again2 whenDue isNew field signed32 headerOf dataOf foundMode modeOf
+unfolding after unwritten reads-two silent run settle step gate onTick onFirmware expire onMessage onTurn onList knowing becomes unknown wellFormed countsFit counts phaseCounts partsOkay owes sums sumsFit knownMax owed begins full14 has only note notes starts sequence parsed isZero noError isFound isMode pgnsAt least groupCount listPgns f1By f1Of added f2By f2Of unless vetMessage vetTick full readMessage readTick onMode onF1 onF2 onWhole start1 start2 startRead again1 again2 whenDue isNew field signed32 headerOf dataOf foundMode modeOf
 silent-sent = refl
 
 silent-ends : (after silent .session .phase ≡ done) × (after silent .session .known ≡ unknown)
-unfolding after unwritten opens-two silent run settle step gate onTick onFirmware expire onMessage onTurn opened knowing becomes unknown wellFormed countsFit counts phaseCounts partsOkay owes sums sumsFit knownMax owed begins full14 has only note notes starts sequence parsed isZero noError isFound isMode pgnsAt least groupCount listPgns f1By f1Of added f2By f2Of unless vetMessage vetTick full readMessage readTick onMode onF1 onF2 onWhole start1 start2 opens again1 again2 whenDue isNew field signed32 headerOf dataOf foundMode modeOf
+unfolding after unwritten reads-two silent run settle step gate onTick onFirmware expire onMessage onTurn onList knowing becomes unknown wellFormed countsFit counts phaseCounts partsOkay owes sums sumsFit knownMax owed begins full14 has only note notes starts sequence parsed isZero noError isFound isMode pgnsAt least groupCount listPgns f1By f1Of added f2By f2Of unless vetMessage vetTick full readMessage readTick onMode onF1 onF2 onWhole start1 start2 startRead again1 again2 whenDue isNew field signed32 headerOf dataOf foundMode modeOf
 silent-ends = (refl, refl)
 
 -- a part with an error leads to Format 1 at once, from which no firmware setting leads back
@@ -190,5 +190,5 @@ turned-down =
     ∷ []
 
 turned-down-sent : after turned-down .sent ≡ read40 ∷ read4F ∷ read1 ∷ read1 ∷ enable 5 ∷ []
-unfolding after unwritten opens-two turned-down run settle step gate onTick onFirmware expire onMessage onTurn opened knowing becomes unknown wellFormed countsFit counts phaseCounts partsOkay owes sums sumsFit knownMax owed begins full14 has only note notes starts sequence parsed isZero noError isFound isMode pgnsAt least groupCount listPgns f1By f1Of added f2By f2Of unless vetMessage vetTick full readMessage readTick onMode onF1 onF2 onWhole start1 start2 opens again1 again2 whenDue isNew field signed32 headerOf dataOf foundMode modeOf
+unfolding after unwritten reads-two turned-down run settle step gate onTick onFirmware expire onMessage onTurn onList knowing becomes unknown wellFormed countsFit counts phaseCounts partsOkay owes sums sumsFit knownMax owed begins full14 has only note notes starts sequence parsed isZero noError isFound isMode pgnsAt least groupCount listPgns f1By f1Of added f2By f2Of unless vetMessage vetTick full readMessage readTick onMode onF1 onF2 onWhole start1 start2 startRead again1 again2 whenDue isNew field signed32 headerOf dataOf foundMode modeOf
 turned-down-sent = refl

@@ -8,7 +8,7 @@ use native.Mathlib.Omega.{arith}
 use lib.Dec.{leb}
 use Rattle.tx_list.specs.Views.{isAnswer, Ack, good, bad, nothing, ackOf}
 use Rattle.tx_list.specs.Reading.{Kind, Turn, stay, goes, got, fails, readMessage, readTick, Call, message, tick, firmware, Verdict, taken, unless, vetMessage, vetTick}
-use Rattle.tx_list.specs.Session.{Record, Known, Phase, reading, enabling, committing, activating, done, Session, Result, did, refuses, owed, opened, knowing, onTurn, onNext, onAnswer, onCommit, onActivate, onMessage, expire, onTick, onFirmware, full14, gate, wellFormed, step}
+use Rattle.tx_list.specs.Session.{Record, Known, Phase, reading, enabling, committing, activating, done, Session, Result, did, refuses, owed, onList, knowing, onTurn, onNext, onAnswer, onCommit, onActivate, onMessage, expire, onTick, onFirmware, full14, gate, wellFormed, step}
 
 module _ (k : Kind) where
   abbrev S : Type 0
@@ -23,16 +23,16 @@ module _ (k : Kind) where
   Fine (refuses n) = n ≡ 16 → ⊥
 
   -- what a call does is no refusal at all
-  fine-opened : (todo : List ℕ) (s : S) (kn : Known) (t : ℕ) → Fine (opened k todo s kn t)
-  unfolding opened
-  fine-opened [] s kn t = tt
-  fine-opened (p ∷ ps) s kn t = tt
+  fine-list : (todo : List ℕ) (s : S) (kn : Known) (t : ℕ) → Fine (onList k todo s kn t)
+  unfolding onList
+  fine-list [] s kn t = tt
+  fine-list (p ∷ ps) s kn t = tt
 
   fine-turn : (x : Turn (k .Parts)) (s : S) (t : ℕ) → Fine (onTurn k x s t)
   unfolding onTurn
   fine-turn stay s t = tt
   fine-turn (goes r d cs) s t = tt
-  fine-turn (got l b) s t = fine-opened (owed (k .pgnOf) (s .wanted) l (s .rec)) s (knowing k l b s) t
+  fine-turn (got l b) s t = fine-list (owed (k .pgnOf) (s .wanted) l (s .rec)) s (knowing k l b s) t
   fine-turn fails s t = tt
 
   fine-next : (todo fresh : List ℕ) (s : S) (r : Record (k .Entry)) (kn : Known) (t : ℕ) → Fine (onNext k todo fresh s r kn t)

@@ -12,7 +12,7 @@ use Rattle.tx_list.specs.Reading.{Command, Kind, Call, await}
 use Rattle.tx_list.specs.Session.{Record, Session, Result, did, refuses, Ran, allLe, AllLe, oldBounds, begins, begin, beginBy, restart, step, settle, run, soundly, wellFormed}
 use Rattle.tx_list.specs.Observer.{Observer, reads, watching, see, seeAll}
 use Rattle.tx_list.specs.Demand.{Claim, happened}
-use Rattle.tx_list.specs.Stored.{Store, wire, Answer, answer, called, Ran′, then, runs, Opening′, new, again, opens, wanted′, old′, Real, Demand3-kept, Faithful}
+use Rattle.tx_list.specs.Stored.{Store, wire, CallAnswer, answer, called, Ran′, then, runs, Opening′, new, again, opens, wanted′, old′, Real, Demand3-kept, Faithful}
 use Rattle.tx_list.proofs.Lists.{ltb-no, allLe-yes}
 use Rattle.tx_list.proofs.Demand3.{Lawful, Inv, step-lands, run-lands, formed, start-lands, claimed}
 use Rattle.tx_list.proofs.Formed.{Fine, fine-step}
@@ -70,7 +70,7 @@ module _ (k : Kind) (m : Store k) where
     alike-run (c ∷ cs) v r x h i =
         let j : Inv k w old (see k w old v c) (settle x (step k (x .session) c)) = step-lands k w old law fits c v x i in
         alike-run cs (see k w old v c) (then k m r (called k m (r .kept) c)) (settle x (step k (x .session) c))
-        (subst (λ (a : Answer k m). Alike (then k m r a) (settle x (step k (x .session) c))) (sym (called-is c r x h))
+        (subst (λ (a : CallAnswer k m). Alike (then k m r a) (settle x (step k (x .session) c))) (sym (called-is c r x h))
         (alike-by (step k (x .session) c) (see k w old v c) r x h j))
         j
 
@@ -89,7 +89,7 @@ module _ (k : Kind) (m : Store k) where
         → ⊥
     never-16 v r x h i c e =
         fine-answer (step k (x .session) c) (r .kept) (fine-step k (x .session) c (is-formed v x i))
-        (ap (λ (a : Answer k m). a .no) (sym (called-is c r x h)) ∙ e)
+        (ap (λ (a : CallAnswer k m). a .no) (sym (called-is c r x h)) ∙ e)
 
 -- an opening that is taken holds a session just begun
 module _ (k : Kind) (m : Store k) (law : Lawful k) (f : Faithful k m) where

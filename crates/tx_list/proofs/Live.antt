@@ -11,11 +11,11 @@ use lib.Dec.{leb, ltb}
 use lib.ListN.{length, take, drop, length-append, length-drop}
 use lib.Seq.{take-all}
 use Rattle.tx_list.specs.Views.{has, notes, only, isFresh, answerOf, F2, F1, adds, ends, neither, f1Of, added, isAnswer, Ack}
-use Rattle.tx_list.specs.Reading.{Command, read1, read40, read4F, enable, commit, activate, Kind, Call, message, tick, firmware, await, waits, second, first, Turn, readMessage, readTick, onMode, onF1, onF2, onWhole, whenDue, opens, start1, start2, full, Verdict, taken, refuse, unless, vetMessage, vetTick}
-use Rattle.tx_list.specs.Session.{Record, Known, Phase, reading, enabling, committing, activating, done, Session, Result, did, refuses, Ran, silent, lacks, lacksBy, step, settle, run, gate, onMessage, onTurn, onAnswer, onCommit, onActivate, onTick, expire, full14, opened, onNext, onFirmware, AllLe, oldBounds, begins}
+use Rattle.tx_list.specs.Reading.{Command, read1, read40, read4F, enable, commit, activate, Kind, Call, message, tick, firmware, await, waits, second, first, Turn, readMessage, readTick, onMode, onF1, onF2, onWhole, whenDue, startRead, start1, start2, full, Verdict, taken, refuse, unless, vetMessage, vetTick}
+use Rattle.tx_list.specs.Session.{Record, Known, Phase, reading, enabling, committing, activating, done, Session, Result, did, refuses, Ran, silent, lacks, lacksBy, step, settle, run, gate, onMessage, onTurn, onAnswer, onCommit, onActivate, onTick, expire, full14, onList, onNext, onFirmware, AllLe, oldBounds, begins}
 use Rattle.tx_list.specs.Observer.{Stage, reads, asks, commits, activates, over, Observer, listRead, answers, brought, toSaved, freshOf, watching, goOn, seenRead, seeTurn, seeAnswered, seeAnswer, seeCommit, seeActivate, seeMessage, seeTick, seeFull, unlessRefused, see, seeAll}
 use Rattle.tx_list.specs.Demand.{owedOf, gained, wantedOf, oldOf}
-use Rattle.tx_list.specs.Live.{others, asksList, closes, Gateway, inTwo, TellsFirst, Unwhole, Tells, setting, Mixed, end, next, idle, lost, Idle, Dull, NotDue, Said, isPage, said, saids, texts, listed, Each, Fair, owes, fresh, ending, startUp, Helpful, Started, Live}
+use Rattle.tx_list.specs.Live.{others, asksList, savesFresh, Gateway, inTwo, TellsFirst, Unwhole, Tells, setting, Mixed, end, next, idle, lost, Idle, Dull, NotDue, Said, isPage, said, saids, texts, listed, Each, Fair, owes, fresh, ending, startUp, Helpful, Started, Live}
 use Rattle.tx_list.proofs.Lists.{length-snoc, owed-length, brought-snoc}
 use Rattle.tx_list.proofs.LiveLists.{false-true, GoodReply, known-all, refused-none, all-served, none-served}
 use Rattle.tx_list.proofs.Demand3.{Lawful, Inv, formed, same-full, step-lands, run-lands, start-lands, opening-start, Start, mk, recOf, knownOf, phaseOf}
@@ -76,9 +76,9 @@ abbrev activateIf : List ℕ → List Command
 activateIf [] = []
 activateIf (p ∷ ps) = activate ∷ []
 
-closes-is : (fr : List ℕ) → commitIf fr ++ activateIf fr ≡ closes fr
-closes-is [] = refl
-closes-is (p ∷ ps) = refl
+saves-is : (fr : List ℕ) → commitIf fr ++ activateIf fr ≡ savesFresh fr
+saves-is [] = refl
+saves-is (p ∷ ps) = refl
 
 texts-length : (xs : List Said) → length (texts xs) ≡ length xs
 texts-length [] = refl
@@ -151,12 +151,12 @@ module _ (k : Kind) (w : List ℕ) (old : Record (k .Entry)) where
       (ap (λ (z : List ℕ). brought (toSaved old) q o ++ only (isFresh (answerOf m) p z) p) f
       ∙ sym (brought-snoc (toSaved old) q m o p [] e))
 
-  opened-none :
+  list-none :
       (todo : List ℕ) (s : Session (k .Parts) (k .Entry)) (kn : Known) (t : ℕ)
-      → others (sentBy (opened k todo s kn t)) ≡ []
-  unfolding others sentBy opened
-  opened-none [] s kn t = refl
-  opened-none (p ∷ ps) s kn t = refl
+      → others (sentBy (onList k todo s kn t)) ≡ []
+  unfolding others sentBy onList
+  list-none [] s kn t = refl
+  list-none (p ∷ ps) s kn t = refl
 
   page-none :
       (y : F1) (q : List ℕ) (s : Session (k .Parts) (k .Entry)) (t : ℕ)
@@ -167,12 +167,12 @@ module _ (k : Kind) (w : List ℕ) (old : Record (k .Entry)) where
   page-none ends q s t e = false-true e
   page-none neither q s t e = false-true e
 
-  opens-asks :
+  start-asks :
       (y : Bool) (s : Session (k .Parts) (k .Entry)) (t : ℕ)
-      → others (sentBy (onTurn k (opens k y t) s t)) ≡ asksList y
-  unfolding others sentBy onTurn opens start1 start2
-  opens-asks true s t = refl
-  opens-asks false s t = refl
+      → others (sentBy (onTurn k (startRead k y t) s t)) ≡ asksList y
+  unfolding others sentBy onTurn startRead start1 start2
+  start-asks true s t = refl
+  start-asks false s t = refl
 
   gate-none : (vd : Verdict) (x : Result (k .Parts) (k .Entry)) → others (sentBy x) ≡ [] → others (sentBy (gate k vd x)) ≡ []
   unfolding others sentBy gate
@@ -396,7 +396,7 @@ module _ (k : Kind) (w : List ℕ) (old : Record (k .Entry)) where
             (ap (λ (y : F1). seeTurn k w old (onF1 k y 1 l t) v t) (u .close-is)
             ∙ ap (λ (y : Bool). seenRead k w old o l y v t) (sym one))
             (ap (λ (y : F1). others (sentBy (onTurn k (onF1 k y 1 l t) (ofSeen v) t))) (u .close-is)
-            ∙ opened-none o (ofSeen v) _ t)
+            ∙ list-none o (ofSeen v) _ t)
             (read-by o (g .replies) (reads (first 1 l)) d t refl refl)
 
         page-turn :
@@ -445,7 +445,7 @@ module _ (k : Kind) (w : List ℕ) (old : Record (k .Entry)) where
             ∙ ap (λ (y : Bool). seenRead k w old o l y v t) (sym two))
             (ap (λ (y : F2). others (sentBy (onTurn k (onF2 k y 1 p t m) (ofSeen v) t))) (r .0)
             ∙ ap (λ (y : Option (List ℕ)). others (sentBy (onTurn k (onWhole k y 1 (k .put m p) t) (ofSeen v) t))) (r .1)
-            ∙ opened-none o (ofSeen v) _ t)
+            ∙ list-none o (ofSeen v) _ t)
             (read-by o (g .replies) (reads (second 1 p)) d t refl refl)
         parts-end (x ∷ xs) d p r =
             let v : Observer (k .Parts) = at (reads (second 1 p)) d in
@@ -468,21 +468,21 @@ module _ (k : Kind) (w : List ℕ) (old : Record (k .Entry)) where
       begun-ends true d e u = parts-end e (g .pages) d (k .blank) u
       begun-ends false d e u = pages-end u e (g .pages) d [] (u .told) (u .pages-are)
 
-      opens-turn : (y : Bool) (d t : ℕ) → seeTurn k w old (opens k y t) (at (reads waits) d) t ≡ at (begun y) (t + 10000)
-      unfolding seeTurn opens start1 start2 goOn
-      opens-turn true d t = refl
-      opens-turn false d t = refl
+      start-turn : (y : Bool) (d t : ℕ) → seeTurn k w old (startRead k y t) (at (reads waits) d) t ≡ at (begun y) (t + 10000)
+      unfolding seeTurn startRead start1 start2 goOn
+      start-turn true d t = refl
+      start-turn false d t = refl
 
       tick-turn : (d t : ℕ) → d ≤ t → seeTick k w old (reads waits) (at (reads waits) d) t ≡ at (begun b) (t + 10000)
       unfolding seeTick readTick whenDue
       tick-turn d t e =
-          ap (λ (y : Bool). seeTurn k w old (whenDue k y (opens k b t)) (at (reads waits) d) t) (le-leb d t e) ∙ opens-turn b d t
+          ap (λ (y : Bool). seeTurn k w old (whenDue k y (startRead k b t)) (at (reads waits) d) t) (le-leb d t e) ∙ start-turn b d t
 
       tick-asks : (d t : ℕ) → d ≤ t → others (sentBy (onTick k (reading waits) (ofSeen (at (reads waits) d)) t)) ≡ asksList b
       unfolding onTick readTick whenDue
       tick-asks d t e =
-          ap (λ (y : Bool). others (sentBy (onTurn k (whenDue k y (opens k b t)) (ofSeen (at (reads waits) d)) t))) (le-leb d t e)
-          ∙ opens-asks b (ofSeen (at (reads waits) d)) t
+          ap (λ (y : Bool). others (sentBy (onTurn k (whenDue k y (startRead k b t)) (ofSeen (at (reads waits) d)) t))) (le-leb d t e)
+          ∙ start-asks b (ofSeen (at (reads waits) d)) t
 
       tick-ends :
           (d : ℕ)
@@ -586,7 +586,7 @@ module _ (k : Kind) (w : List ℕ) (old : Record (k .Entry)) where
                 i .facts .asked
                 ∙ ap (λ (st : St). take (suc (length (answers st))) (owedOf (k .pgnOf) w old (listRead st))) e
                 ∙ take-all (suc (length ms)) (owes k w old g) (omega (arith, texts-length (g .replies), h .as-many));
-            rest = c ∙ ap (λ (z : List Command). asksList b ++ z) (closes-is new);
+            rest = c ∙ ap (λ (z : List Command). asksList b ++ z) (saves-is new);
             bounded = calls-bounded;
           }
 

@@ -10,10 +10,10 @@ use native.Mathlib.Numerals.{add-one}
 use lib.Dec.{leb, ltb, eqb}
 use lib.ListN.{length, take, drop, getD, length-append}
 use Rattle.field.specs.Pick.{pick}
-use Rattle.tx_list.specs.Views.{only, isMode, F1, adds, ends, neither, f1Of, added, F2, wrong, part, alien, f2Of, Answer, isAnswer, answerOf, isDenied, isThere, isGood, isFresh, Ack, good, bad, nothing, ackOf}
-use Rattle.tx_list.specs.Reading.{Command, enable, commit, activate, Kind, Turn, onMode, onF1, onF2, onWhole, start1, start2, readMessage, readTick, opens, again2, again1, whenDue, isNew}
+use Rattle.tx_list.specs.Views.{only, isMode, F1, adds, ends, neither, f1Of, added, F2, wrong, part, f2Of, Answer, isAnswer, answerOf, isDenied, isThere, isGood, isFresh, Ack, good, bad, nothing, ackOf}
+use Rattle.tx_list.specs.Reading.{Command, enable, commit, activate, Kind, Turn, onMode, onF1, onF2, onWhole, start1, start2, readMessage, readTick, startRead, again2, again1, whenDue, isNew}
 use Rattle.tx_list.specs.Session as model
-use Rattle.tx_list.specs.Session.{Record, Known, Session, Result, did, refuses, enabling, committing, done, AllLe, knownMax, becomes, begins, unknown, learn, marked, kept, owed, opened, knowing, onTurn, onNext, onAnswer, onCommit, onActivate, onMessage, onTick, onFirmware, expire}
+use Rattle.tx_list.specs.Session.{Record, Known, Session, Result, did, refuses, enabling, committing, done, AllLe, knownMax, becomes, begins, unknown, learn, marked, withSaved, owed, onList, knowing, onTurn, onNext, onAnswer, onCommit, onActivate, onMessage, onTick, onFirmware, expire}
 use Rattle.tx_list.specs.Memory.{Buf, live, fill, Flat, phaseIn, stateAs, firmwareBy, toldAs, versionAs, owedAs, freshAs, listAs, partsAs, absFlat, writeFlat, counts, Sized}
 use Rattle.tx_list.specs.Moves.{pushIf, emptied, owesIn, sumsIn, fullIn, Moved, stays, goTo, withList, withOwed, withFirmware, startF1, startF2, finishes, givesUp, waitsFrom, puts, asks, knows, oldest, marks, asksNext, commits, closes, goesOn, answered, committed, activated, inF1, inWhole, inF2, heard, late, ticked, startsOver}
 use Rattle.tx_list.specs.declared.State.{State}
@@ -264,8 +264,8 @@ module _ (k : Kind) (h : Flat (k .Parts) (k .Entry)) (z : Sized k h) (g : AllLe 
 
   -- the list was read
   by-owed :
-      (l todo : List ℕ) (b : Bool) (t : ℕ) → Does k h (opened k todo σ (knowing k l b σ) t) (asks k (knows k h l b) todo t)
-  unfolding opened knowing asks
+      (l todo : List ℕ) (b : Bool) (t : ℕ) → Does k h (onList k todo σ (knowing k l b σ) t) (asks k (knows k h l b) todo t)
+  unfolding onList knowing asks
   by-owed l [] b t = gives [] [] (flat-known _ done (t + 10000))
   by-owed l (p ∷ ps) b t = gives (enable p ∷ []) [] (flat-known _ (enabling (p ∷ ps) []) (t + 10000))
 
@@ -303,7 +303,7 @@ module _ (k : Kind) (h : Flat (k .Parts) (k .Entry)) (z : Sized k h) (g : AllLe 
   unfolding onF2 start1 onTurn inF2
   by-f2 wrong a t m e = gives _ [] (flat-phase _ _)
   by-f2 part a t m e = by-whole (k .whole (k .put m (h .f2))) (k .put m (h .f2)) a t e
-  by-f2 alien a t m e = still
+  by-f2 neither a t m e = still
 
   by-commit : (a : Ack) (t : ℕ) → Does k h (onCommit k a (live (h .fresh)) σ t) (committed k a h t)
   unfolding onCommit committed
@@ -318,7 +318,7 @@ module _ (k : Kind) (h : Flat (k .Parts) (k .Entry)) (z : Sized k h) (g : AllLe 
       (a : Ack) (t : ℕ)
       → h .saved .n + h .fresh .n ≤ 256
       → Does k h (onActivate k a (live (h .fresh)) σ t) (activated k a h t)
-  unfolding onActivate activated kept
+  unfolding onActivate activated withSaved
   by-activate good t u =
       let n : length (live (h .fresh)) ≡ h .fresh .n = live-length (h .fresh) (omega arith) in
       gives [] []
@@ -490,10 +490,10 @@ module _ (k : Kind) (h : Flat (k .Parts) (k .Entry)) (z : Sized k h) (g : AllLe 
   heard-is Activating t m e o w f = by-activate (ackOf (k .strict) 0x4B m) t (w .0)
   heard-is Done t m e o w f = still
 
-  by-open : (y : Bool) (t : ℕ) → Does k h (onTurn k (opens k y t) σ t) (pick y (startF2 k h 1 t) (startF1 k h 1 t))
-  unfolding opens start1 start2 onTurn
-  by-open true t = gives _ [] (flat-phase _ _)
-  by-open false t = gives _ [] (flat-phase _ _)
+  by-start : (y : Bool) (t : ℕ) → Does k h (onTurn k (startRead k y t) σ t) (pick y (startF2 k h 1 t) (startF1 k h 1 t))
+  unfolding startRead start1 start2 onTurn
+  by-start true t = gives _ [] (flat-phase _ _)
+  by-start false t = gives _ [] (flat-phase _ _)
 
   by-again2 : (y : Bool) (a t : ℕ) → Does k h (onTurn k (again2 k y a t) σ t) (pick y (startF2 k h (a + 1) t) (startF1 k h 1 t))
   unfolding again2 start1 start2 onTurn
@@ -533,9 +533,9 @@ module _ (k : Kind) (h : Flat (k .Parts) (k .Entry)) (z : Sized k h) (g : AllLe 
   by-state ReadAt t =
       by-due (leb (h .deadline) t) _ _ t
       (subst
-      (λ y. Does k h (onTurn k (opens k (k .two && isNew (firmwareBy (h .told) (h .version))) t) σ t) (pick (k .two && y) (startF2 k h 1 t) (startF1 k h 1 t)))
+      (λ y. Does k h (onTurn k (startRead k (k .two && isNew (firmwareBy (h .told) (h .version))) t) σ t) (pick (k .two && y) (startF2 k h 1 t) (startF1 k h 1 t)))
       (new-firmware (h .told) (h .version))
-      (by-open (k .two && isNew (firmwareBy (h .told) (h .version))) t))
+      (by-start (k .two && isNew (firmwareBy (h .told) (h .version))) t))
   by-state (ReadingF2 a) t = by-due (leb (h .deadline) t) _ _ t (by-again2 (ltb a 3) a t)
   by-state (ReadingF1 a) t = by-due (leb (h .deadline) t) _ _ t (by-again1 (ltb a 3) a t)
   by-state Enabling t = by-expire (leb (h .deadline) t)

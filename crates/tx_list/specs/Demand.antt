@@ -9,7 +9,7 @@ use lib.ListN.{length, take}
 use Rattle.tx_list.specs.Views.{only, notes, answerOf, isDenied, isThere, isGood}
 use Rattle.tx_list.specs.Reading.{Command, read1, read40, read4F, enable, commit, activate, Kind, Call}
 use Rattle.tx_list.specs.Session.{Record, Known, unknown, owed, Session, Result, did, Ran, begin, restart, run, isDone}
-use Rattle.tx_list.specs.Observer.{Stage, listRead, wholeRead, answers, activated, isOver, brought, toSaved, watching, seeAll}
+use Rattle.tx_list.specs.Observer.{Stage, listRead, wholeRead, answers, isActivated, isOver, brought, toSaved, watching, seeAll}
 
 -- "the PGNs of the enable commands answered .. whose answer calls for that list": what one answer m to the enable command of p calls for
 unfoldable pub toPresent : ℕ → List ℕ → List ℕ
@@ -56,7 +56,7 @@ module _ (k : Kind) (w : List ℕ) (old : Record (k .Entry)) where
     -- once activation is answered)"
     pub saved :
         r .session .rec .saved
-        ≡ gained (activated st) (old .saved) (brought (toSaved old) (answers st) (enables (r .sent)))
+        ≡ gained (isActivated st) (old .saved) (brought (toSaved old) (answers st) (enables (r .sent)))
     pub present : r .session .rec .present ≡ old .present ++ brought toPresent (answers st) (enables (r .sent))
     pub refused : r .session .rec .refused ≡ old .refused ++ brought (toRefused (k .entry)) (answers st) (enables (r .sent))
     -- "The enable commands sent name, in wanted order with repeats, the wanted PGNs absent from the list read and from the old present

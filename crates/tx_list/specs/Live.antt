@@ -6,7 +6,7 @@ use mathlib.Core.List.{List, [], _∷_, _++_, map}
 use mathlib.Core.Option.{Option, none, some}
 use Prim.Native.Nat.{ℕ, _+_, _≤_, _<_}
 use lib.ListN.{length}
-use Rattle.tx_list.specs.Views.{has, notes, isMode, F1, adds, ends, neither, f1Of, added, part, alien, f2Of, isAnswer, answerOf, isGood, good, nothing, ackOf}
+use Rattle.tx_list.specs.Views.{has, notes, isMode, F1, adds, ends, neither, f1Of, added, part, f2Of, isAnswer, answerOf, isGood, good, nothing, ackOf}
 use Rattle.tx_list.specs.Reading.{Command, read1, read40, read4F, enable, commit, activate, Kind, Call, message, tick, firmware, await, waits, second, first, isNew}
 use Rattle.tx_list.specs.Session.{Record, Phase, reading, enabling, committing, activating, done, Session, did, refuses, Ran, owed, silent, lacks, step, settle, run}
 use Rattle.tx_list.specs.Observer.{brought, toSaved}
@@ -89,9 +89,9 @@ asksList true = read40 ∷ read4F ∷ []
 asksList false = read1 ∷ []
 
 -- "fresh ones lead to commit, then activate"
-abbrev pub closes : List ℕ → List Command
-closes [] = []
-closes (p ∷ ps) = commit ∷ activate ∷ []
+abbrev pub savesFresh : List ℕ → List Command
+savesFresh [] = []
+savesFresh (p ∷ ps) = commit ∷ activate ∷ []
 
 module _ (k : Kind) (w : List ℕ) (old : Record (k .Entry)) (g : Gateway) where
   -- whether the list is read in Format 2
@@ -177,7 +177,7 @@ module _ (k : Kind) (w : List ℕ) (old : Record (k .Entry)) (g : Gateway) where
     pub refused : r .session .rec .refused ≡ old .refused
     -- the commands sent: an enable for each PGN owed; besides, the list's, and commit and activate if something is to be saved
     pub asked : enables (r .sent) ≡ owes
-    pub rest : others (r .sent) ≡ asksList inTwo ++ closes fresh
+    pub rest : others (r .sent) ≡ asksList inTwo ++ savesFresh fresh
     pub bounded : length startUp ≤ 6 + length (g .pages) + length w
 
 -- Calls of no interest, which may come in between: ticks that are not due, messages that the session does not wait for, refused calls.
@@ -186,7 +186,7 @@ module _ (k : Kind) where
   abbrev pub Dull : Phase (k .Parts) → List ℕ → Type 0
   Dull (reading await) m = isMode m ≡ false
   Dull (reading waits) m = Unit {0}
-  Dull (reading (second a p)) m = f2Of m ≡ alien
+  Dull (reading (second a p)) m = f2Of m ≡ neither
   Dull (reading (first a l)) m = f1Of m ≡ neither
   Dull (enabling todo fr) m = isAnswer m ≡ false
   Dull (committing fr) m = ackOf (k .strict) 0x01 m ≡ nothing

@@ -1,38 +1,21 @@
 -- What each call does to a session in memory, field by field, at any limits: the definitions that the code's own functions cite.
 -- proofs/MovesLaws shows that they are module 6's (Session) read from and written to memory (Memory).
 -- Assumes nothing.
-use mathlib.Core.Bool.{Bool, true, false, not, _&&_, _||_}
-use mathlib.Core.List.{List, [], _∷_, _++_}
+use mathlib.Core.Bool.{Bool, true, false, not, _&&_}
+use mathlib.Core.List.{List, [], _∷_}
 use mathlib.Core.Option.{Option, none, some}
 use Prim.Native.Nat.{ℕ, _+_}
 use lib.Dec.{leb, ltb, eqb}
-use lib.ListN.{length, getD, take, drop, set}
-use lib.Seq.{sets}
+use lib.ListN.{length, getD, drop}
 use Rattle.field.specs.Pick.{pick}
-use Rattle.tx_list.specs.Views.{has, notes, isMode, F1, adds, ends, neither, f1Of, added, F2, wrong, part, alien, f2Of, Answer, isAnswer, answerOf, isDenied, isThere, isGood, isFresh, Ack, good, bad, nothing, ackOf}
+use Rattle.tx_list.specs.Views.{has, notes, isMode, F1, adds, ends, neither, f1Of, added, F2, wrong, part, f2Of, Answer, isAnswer, answerOf, isDenied, isThere, isGood, isFresh, Ack, good, bad, nothing, ackOf}
 use Rattle.tx_list.specs.Reading.{Command, read1, read40, read4F, enable, commit, activate, Kind, Verdict, taken, refuse, unless, vetMessage, vetTick}
-use Rattle.tx_list.specs.Session.{Record, allLe, knownMax, owed}
-use Rattle.tx_list.specs.Stored.{Store, Answer as Told, wire}
-use Rattle.tx_list.specs.Memory.{Buf, live, fill, Flat, counts, firmwareBy}
+use Rattle.tx_list.specs.Session.{allLe, knownMax, owed}
+use Rattle.tx_list.specs.Stored.{Store, CallAnswer, wire}
+use Rattle.tx_list.specs.Memory.{live, fill, Flat, counts}
+pub use Rattle.tx_list.specs.Changed.{push, pushIf, append, emptied, goTo, withList, withParts, withKnown, withOwed, withRecord, withFirmware, forgets}
 use Rattle.tx_list.specs.declared.State.{State}
 use Rattle.tx_list.specs.declared.State.the-variants.{AwaitStartup, ReadAt, ReadingF2, Reading as ReadingF1, Enabling, Committing, Activating, Done}
-
--- one more at the end: a store at the count's place; where a test passes; a list more
-abbrev pub push : {A : Type 0} → Buf A → A → Buf A
-push b x = record { items = set (b .items) (b .n) x; n = b .n + 1 }
-
--- the same where a test passes
-abbrev pub pushIf : {A : Type 0} → Bool → Buf A → A → Buf A
-pushIf true b x = push b x
-pushIf false b x = b
-
--- a list more at the end
-abbrev pub append : {A : Type 0} → Buf A → List A → Buf A
-append b xs = record { items = sets (b .items) (b .n) xs; n = b .n + length xs }
-
--- a count of 0; what stands in the array stays
-abbrev pub emptied : {A : Type 0} → Buf A → Buf A
-emptied b = record { items = b .items; n = 0 }
 
 -- 16: the three kinds of test on the counts
 -- a session that reads Format 1 only cannot be reading Format 2
@@ -108,157 +91,6 @@ pub record Moved (P E : Type 0) : Type 0 where
 -- nothing changes
 abbrev pub stays : {P E : Type 0} → Flat P E → Moved P E
 stays h = record { flat = h; sent = []; handed = [] }
-
--- another phase and due time, the rest as it was
-abbrev pub goTo : {P E : Type 0} → Flat P E → State → ℕ → Flat P E
-goTo h st d =
-    record {
-      state = st;
-      wanted = h .wanted;
-      owed = h .owed;
-      fresh = h .fresh;
-      list = h .list;
-      f2 = h .f2;
-      isKnown = h .isKnown;
-      complete = h .complete;
-      known = h .known;
-      saved = h .saved;
-      present = h .present;
-      refused = h .refused;
-      deadline = d;
-      told = h .told;
-      version = h .version;
-    }
-
--- with another list read so far
-abbrev pub withList : {P E : Type 0} → Flat P E → Buf ℕ → Flat P E
-withList h b =
-    record {
-      state = h .state;
-      wanted = h .wanted;
-      owed = h .owed;
-      fresh = h .fresh;
-      list = b;
-      f2 = h .f2;
-      isKnown = h .isKnown;
-      complete = h .complete;
-      known = h .known;
-      saved = h .saved;
-      present = h .present;
-      refused = h .refused;
-      deadline = h .deadline;
-      told = h .told;
-      version = h .version;
-    }
-
--- with other parts of Format 2
-abbrev pub withParts : {P E : Type 0} → Flat P E → P → Flat P E
-withParts h p =
-    record {
-      state = h .state;
-      wanted = h .wanted;
-      owed = h .owed;
-      fresh = h .fresh;
-      list = h .list;
-      f2 = p;
-      isKnown = h .isKnown;
-      complete = h .complete;
-      known = h .known;
-      saved = h .saved;
-      present = h .present;
-      refused = h .refused;
-      deadline = h .deadline;
-      told = h .told;
-      version = h .version;
-    }
-
--- with another known list
-abbrev pub withKnown : {P E : Type 0} → Flat P E → Bool → Bool → Buf ℕ → Flat P E
-withKnown h y b kn =
-    record {
-      state = h .state;
-      wanted = h .wanted;
-      owed = h .owed;
-      fresh = h .fresh;
-      list = h .list;
-      f2 = h .f2;
-      isKnown = y;
-      complete = b;
-      known = kn;
-      saved = h .saved;
-      present = h .present;
-      refused = h .refused;
-      deadline = h .deadline;
-      told = h .told;
-      version = h .version;
-    }
-
--- with other lists of PGNs owed and fresh
-abbrev pub withOwed : {P E : Type 0} → Flat P E → Buf ℕ → Buf ℕ → Flat P E
-withOwed h o f =
-    record {
-      state = h .state;
-      wanted = h .wanted;
-      owed = o;
-      fresh = f;
-      list = h .list;
-      f2 = h .f2;
-      isKnown = h .isKnown;
-      complete = h .complete;
-      known = h .known;
-      saved = h .saved;
-      present = h .present;
-      refused = h .refused;
-      deadline = h .deadline;
-      told = h .told;
-      version = h .version;
-    }
-
--- with another record
-abbrev pub withRecord : {P E : Type 0} → Flat P E → Buf ℕ → Buf ℕ → Buf E → Flat P E
-withRecord h s p r =
-    record {
-      state = h .state;
-      wanted = h .wanted;
-      owed = h .owed;
-      fresh = h .fresh;
-      list = h .list;
-      f2 = h .f2;
-      isKnown = h .isKnown;
-      complete = h .complete;
-      known = h .known;
-      saved = s;
-      present = p;
-      refused = r;
-      deadline = h .deadline;
-      told = h .told;
-      version = h .version;
-    }
-
--- with another firmware
-abbrev pub withFirmware : {P E : Type 0} → Flat P E → Bool → ℕ → Flat P E
-withFirmware h y v =
-    record {
-      state = h .state;
-      wanted = h .wanted;
-      owed = h .owed;
-      fresh = h .fresh;
-      list = h .list;
-      f2 = h .f2;
-      isKnown = h .isKnown;
-      complete = h .complete;
-      known = h .known;
-      saved = h .saved;
-      present = h .present;
-      refused = h .refused;
-      deadline = h .deadline;
-      told = y;
-      version = v;
-    }
-
--- no list is known
-abbrev pub forgets : {P E : Type 0} → Flat P E → Flat P E
-forgets h = withKnown h false false (emptied (h .known))
 
 module _ (k : Kind) where
   -- what memory holds of a session of this kind
@@ -405,7 +237,7 @@ module _ (k : Kind) where
   unfoldable pub inF2 : F2 → F → ℕ → List ℕ → M
   inF2 wrong h t m = startF1 h 1 t
   inF2 part h t m = inWhole (k .whole (k .put m (h .f2))) h (k .put m (h .f2)) t
-  inF2 alien h t m = stays h
+  inF2 neither h t m = stays h
 
   -- a message
   unfoldable pub heard : State → F → ℕ → List ℕ → M
@@ -454,6 +286,6 @@ module _ (k : Kind) where
   judgeRestart h = unless (not (soundIn k h)) 16 (unless (not (allLe (oldIn h))) 12 taken)
 
 -- what a call answers, by its verdict
-abbrev pub told : (k : Kind) (m : Store k) → (Flat (k .Parts) (k .Entry) → m .Kept) → m .Kept → Verdict → Moved (k .Parts) (k .Entry) → Told k m
+abbrev pub told : (k : Kind) (m : Store k) → (Flat (k .Parts) (k .Entry) → m .Kept) → m .Kept → Verdict → Moved (k .Parts) (k .Entry) → CallAnswer k m
 told k m to c taken x = record { kept = to (x .flat); bytes = wire k m (x .sent); handed = x .handed; no = 0 }
 told k m to c (refuse n) x = record { kept = c; bytes = []; handed = []; no = n }

@@ -56,13 +56,13 @@ answers (activates l b ms) = ms
 answers (over l b ms a) = ms
 
 -- "once activation is answered"
-unfoldable pub activated : {P : Type 0} → Stage P → Bool
-activated (reads r) = false
-activated unread = false
-activated (asks l b ms) = false
-activated (commits l b ms) = false
-activated (activates l b ms) = false
-activated (over l b ms a) = a
+unfoldable pub isActivated : {P : Type 0} → Stage P → Bool
+isActivated (reads r) = false
+isActivated unread = false
+isActivated (asks l b ms) = false
+isActivated (commits l b ms) = false
+isActivated (activates l b ms) = false
+isActivated (over l b ms a) = a
 
 -- "the session done"
 unfoldable pub isOver : {P : Type 0} → Stage P → Bool

@@ -6,7 +6,7 @@ use mathlib.Core.Option.{Option, none, some}
 use Prim.Native.Nat.{ℕ, suc, _+_}
 use lib.Dec.{leb, ltb}
 use lib.ListN.{length}
-use Rattle.tx_list.specs.Views.{isMode, F1, adds, ends, neither, f1Of, added, F2, wrong, part, alien, f2Of}
+use Rattle.tx_list.specs.Views.{isMode, F1, adds, ends, neither, f1Of, added, F2, wrong, part, f2Of}
 
 -- the commands of a session: "Reads: 49 (Format 1), 40 then 4F (Format 2)", enable, commit, activate
 pub data Command : Type 0 where
@@ -82,7 +82,7 @@ module _ (k : Kind) where
   unfoldable pub onF2 : F2 → ℕ → k .Parts → ℕ → List ℕ → Turn (k .Parts)
   onF2 wrong a p t m = start1 1 t
   onF2 part a p t m = onWhole (k .whole (k .put m p)) a (k .put m p) t
-  onF2 alien a p t m = stay
+  onF2 neither a p t m = stay
 
   -- a message, by how far the reading is
   unfoldable pub readMessage : Reading (k .Parts) → ℕ → List ℕ → Turn (k .Parts)
@@ -92,9 +92,9 @@ module _ (k : Kind) where
   readMessage (first a l) t m = onF1 (f1Of m) a l t
 
   -- "three attempts in Format 2, then three in Format 1; older or unknown has only the latter"
-  unfoldable pub opens : Bool → ℕ → Turn (k .Parts)
-  opens true t = start2 1 t
-  opens false t = start1 1 t
+  unfoldable pub startRead : Bool → ℕ → Turn (k .Parts)
+  startRead true t = start2 1 t
+  startRead false t = start1 1 t
 
   -- "three attempts in Format 2, then three in Format 1": a time-out in Format 2
   unfoldable pub again2 : Bool → ℕ → ℕ → Turn (k .Parts)
@@ -114,7 +114,7 @@ module _ (k : Kind) where
   -- "A setting made once Format 1 is being read never leads back": the firmware is looked at where the reading starts
   unfoldable pub readTick : Reading (k .Parts) → ℕ → Option ℕ → ℕ → Turn (k .Parts)
   readTick await due f t = stay
-  readTick waits due f t = whenDue (leb due t) (opens (k .two && isNew f) t)
+  readTick waits due f t = whenDue (leb due t) (startRead (k .two && isNew f) t)
   readTick (second a p) due f t = whenDue (leb due t) (again2 (ltb a 3) a t)
   readTick (first a l) due f t = whenDue (leb due t) (again1 (ltb a 3) a t)
 

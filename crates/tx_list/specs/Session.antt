@@ -77,8 +77,8 @@ marked r p e a =
     }
 
 -- "activate's answer adds them to saved"
-unfoldable pub kept : {E : Type 0} → Record E → List ℕ → Record E
-kept r fresh = record { saved = r .saved ++ fresh; present = r .present; refused = r .refused }
+unfoldable pub withSaved : {E : Type 0} → Record E → List ℕ → Record E
+withSaved r fresh = record { saved = r .saved ++ fresh; present = r .present; refused = r .refused }
 
 -- a list of pairs, each first at most its second: as a test and as a fact
 abbrev pub allLe : List (ℕ × ℕ) → Bool
@@ -201,9 +201,9 @@ module _ (k : Kind) where
   begin w r = beginBy (ltb (k .wantMax) (length w)) (allLe (oldBounds r)) w r
 
   -- "After a list is read .. known = list plus absent present PGNs. The commands owed are as demand 3 says; with none, done."
-  unfoldable pub opened : List ℕ → S → Known → ℕ → R
-  opened [] s kn t = did (becomes s (s .rec) kn done (t + 10000)) [] []
-  opened (p ∷ ps) s kn t = did (becomes s (s .rec) kn (enabling (p ∷ ps) []) (t + 10000)) (enable p ∷ []) []
+  unfoldable pub onList : List ℕ → S → Known → ℕ → R
+  onList [] s kn t = did (becomes s (s .rec) kn done (t + 10000)) [] []
+  onList (p ∷ ps) s kn t = did (becomes s (s .rec) kn (enabling (p ∷ ps) []) (t + 10000)) (enable p ∷ []) []
 
   -- "known = list plus absent present PGNs"; a list read in Format 2 is whole
   unfoldable pub knowing : List ℕ → Bool → S → Known
@@ -213,7 +213,7 @@ module _ (k : Kind) where
   unfoldable pub onTurn : Turn (k .Parts) → S → ℕ → R
   onTurn stay s t = did s [] []
   onTurn (goes r d cs) s t = did (becomes s (s .rec) (s .known) (reading r) d) cs []
-  onTurn (got l b) s t = opened (owed (k .pgnOf) (s .wanted) l (s .rec)) s (knowing l b s) t
+  onTurn (got l b) s t = onList (owed (k .pgnOf) (s .wanted) l (s .rec)) s (knowing l b s) t
   onTurn fails s t = did (becomes s (s .rec) unknown done (s .deadline)) [] []
 
   -- an enable command is answered: r and kn are what the answer made of the record and the known list.
@@ -241,7 +241,7 @@ module _ (k : Kind) where
 
   -- "activate's answer adds them to saved. Then .. done."
   unfoldable pub onActivate : Ack → List ℕ → S → ℕ → R
-  onActivate good fresh s t = did (becomes s (kept (s .rec) fresh) (s .known) done (t + 10000)) [] []
+  onActivate good fresh s t = did (becomes s (withSaved (s .rec) fresh) (s .known) done (t + 10000)) [] []
   onActivate bad fresh s t = did (becomes s (s .rec) (s .known) done (t + 10000)) [] fresh
   onActivate nothing fresh s t = did s [] []
 

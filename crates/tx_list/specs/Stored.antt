@@ -30,23 +30,23 @@ module _ (k : Kind) (m : Store k) where
   wire (c ∷ cs) = m .frame c ++ wire cs
 
   -- what a call gives: the struct, the bytes written, the list handed out, the refusal's number or 0
-  pub record Answer : Type 0 where
+  pub record CallAnswer : Type 0 where
     pub kept : m .Kept
     pub bytes : List ℕ
     pub handed : List ℕ
     pub no : ℕ
 
   -- a result in memory; a refusal leaves the struct as it was ("6 to 16 return the number alone and change no state or lent byte")
-  unfoldable pub answer : m .Kept → Result (k .Parts) (k .Entry) → Answer
+  unfoldable pub answer : m .Kept → Result (k .Parts) (k .Entry) → CallAnswer
   answer c (did s cs hs) = record { kept = m .write c s; bytes = wire cs; handed = hs; no = 0 }
   answer c (refuses n) = record { kept = c; bytes = []; handed = []; no = n }
 
   -- THE CONTRACT of message, tick and set firmware: the answer is `called c x`
-  unfoldable pub called : m .Kept → Call → Answer
+  unfoldable pub called : m .Kept → Call → CallAnswer
   called c x = answer c (soundly k (m .counted c) (step k (m .abs c) x))
 
   -- THE CONTRACT of abandon
-  unfoldable pub abandoned : m .Kept → Answer
+  unfoldable pub abandoned : m .Kept → CallAnswer
   abandoned c = answer c (soundly k (m .counted c) (abandon k (m .abs c)))
 
   -- the struct that the last call left, and all bytes written so far
@@ -55,7 +55,7 @@ module _ (k : Kind) (m : Store k) where
     pub bytes : List ℕ
 
   -- an answer put behind the run so far
-  unfoldable pub then : Ran′ → Answer → Ran′
+  unfoldable pub then : Ran′ → CallAnswer → Ran′
   then r a = record { kept = a .kept; bytes = r .bytes ++ a .bytes }
 
   -- calls one after the other
@@ -69,7 +69,7 @@ module _ (k : Kind) (m : Store k) where
     again : m .Kept → Opening′
 
   -- what they answer
-  unfoldable pub opens : Opening′ → Answer
+  unfoldable pub opens : Opening′ → CallAnswer
   opens (new w r) = answer (m .clear) (begin k w r)
   opens (again c) = answer c (soundly k (m .counted c) (restart k (m .abs c)))
 

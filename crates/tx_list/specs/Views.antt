@@ -112,13 +112,13 @@ added neither = []
 pub data F2 : Type 0 where
   wrong : F2
   part : F2
-  alien : F2
+  neither : F2
 
 -- by whether it is a parsed reply 40 or 4F, and whether its error is 0
 unfoldable pub f2By : Bool → Bool → F2
 f2By true true = part
 f2By true false = wrong
-f2By false e = alien
+f2By false e = neither
 
 -- "Taken are .. in Format 2, every parsed reply 40 or 4F"; "A Format 2 reply with non-zero error goes to Format 1 at once."
 unfoldable pub f2Of : List ℕ → F2

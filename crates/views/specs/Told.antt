@@ -4,11 +4,11 @@ use Prim.Native.Nat.{ℕ}
 use mathlib.Core.Path.{_≡_, refl, ap, sym, _∙_}
 use mathlib.Core.Bool.{Bool, _&&_, _||_}
 use mathlib.Core.List.{List}
-use Rattle.tx_list.specs.Views.{F1, adds, ends, neither, F2, wrong, part, alien, Answer, enabled, there, denied, starts, sequence, parsed, listPgns, f1By}
+use Rattle.tx_list.specs.Views.{F1, adds, ends, neither, F2, wrong, part, Answer, enabled, there, denied, starts, sequence, parsed, listPgns, f1By}
 use Rattle.views.specs.declared.F1Kind.{F1Kind}
 use Rattle.views.specs.declared.F1Kind.the-variants.{Adds, Ends, Neither}
 use Rattle.views.specs.declared.F2Kind.{F2Kind}
-use Rattle.views.specs.declared.F2Kind.the-variants.{Wrong, Part, Alien}
+use Rattle.views.specs.declared.F2Kind.the-variants.{Wrong, Part, Neither}
 use Rattle.views.specs.declared.EnableResult.{EnableResult}
 use Rattle.views.specs.declared.EnableResult.the-variants.{Now, Already, Refused}
 
@@ -22,7 +22,7 @@ toldF1 Neither l = neither
 abbrev pub toldF2 : F2Kind → F2
 toldF2 Wrong = wrong
 toldF2 Part = part
-toldF2 Alien = alien
+toldF2 Neither = neither
 
 -- the enum's cases: "enabled (saved)", "already there (present)", "refused"
 abbrev pub toldResult : EnableResult → Answer
@@ -56,12 +56,12 @@ f1-tells j k l e = sym (f1-back j l) ∙ ap f1From e ∙ f1-back k l
 abbrev f2From : F2 → F2Kind
 f2From wrong = Wrong
 f2From part = Part
-f2From alien = Alien
+f2From neither = Neither
 
 f2-back : (k : F2Kind) → f2From (toldF2 k) ≡ k
 f2-back Wrong = refl
 f2-back Part = refl
-f2-back Alien = refl
+f2-back Neither = refl
 
 pub f2-tells : (j k : F2Kind) → toldF2 j ≡ toldF2 k → j ≡ k
 f2-tells j k e = sym (f2-back j) ∙ ap f2From e ∙ f2-back k

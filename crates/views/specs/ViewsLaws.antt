@@ -19,7 +19,7 @@ use Rattle.replies.specs.Modes.{toldFound}
 use Rattle.replies.specs.declared.mode.OperatingMode.{OperatingMode}
 use Rattle.replies.specs.declared.mode.ModeFound.{ModeFound}
 use Rattle.replies.specs.declared.mode.ModeFound.the-variants.{Mode as OneMode, Nothing}
-use Rattle.tx_list.specs.Views.{starts, sequence, parsed, isZero, isAlready, noError, isFound, isMode, pgnsAt, least, groupCount, listPgns, adds, ends, neither, f1By, f1Of, wrong, part, alien, f2By, f2Of, enabled, there, denied, answerBy, answerOf}
+use Rattle.tx_list.specs.Views.{starts, sequence, parsed, isZero, isAlready, noError, isFound, isMode, pgnsAt, least, groupCount, listPgns, adds, ends, neither, f1By, f1Of, wrong, part, f2By, f2Of, enabled, there, denied, answerBy, answerOf}
 use Rattle.views.specs.Told.{f1Listed, isFormat2}
 
 -- Bytes 0 and 1
@@ -187,9 +187,9 @@ pub format2-other : (m : List ℕ) → starts 0x40 m ≡ false → starts 0x4F m
 unfolding isFormat2
 format2-other m e f = rw (e, f)
 
-pub f2-alien : (m : List ℕ) → isFormat2 m ≡ false → alien ≡ f2Of m
+pub f2-other : (m : List ℕ) → isFormat2 m ≡ false → neither ≡ f2Of m
 unfolding f2Of f2By isFormat2
-f2-alien m e = rw e
+f2-other m e = rw e
 
 pub f2-part : (m : List ℕ) → isFormat2 m ≡ true → noError m ≡ true → part ≡ f2Of m
 unfolding f2Of f2By isFormat2

@@ -1,5 +1,6 @@
-// What a message says to the session, from its bytes alone (document 01, module 6). Stands on replies, below the session.
-// No function requires anything.
+// What a message says to the session, from its bytes alone (module 6).
+// Numbers: none. No function requires anything: a message of any length is looked at.
+// Place: on `replies`, `tx_list` and `field`; below `phases` and `ngt1_session`.
 ghost use mathlib.Core.Path.{_≡_};
 ghost use Rattle.tx_list.specs.Views as view;
 ghost use Rattle.views.specs.Told.{toldF1, toldF2, toldResult, f1Listed, isFormat2};
@@ -19,7 +20,7 @@ pub enum F1Kind {
 pub enum F2Kind {
     Wrong,
     Part,
-    Alien,
+    Neither,
 }
 
 // The answer to an enable command: `Enabled::Now`, `Enabled::Already` and `Err` of the Rust.
@@ -113,7 +114,7 @@ pub fn f2_kind(m: &[u8]) -> F2Kind
     ensures { λ r. ⌜ toldF2 r ≡ view.f2Of (now (m .entry)) ⌝ }
 {
     if !is_format2(m) {
-        return F2Kind::Alien;
+        return F2Kind::Neither;
     }
     if replies::header(m).error == 0 {
         return F2Kind::Part;

@@ -10,7 +10,7 @@ use borrow.Author.Needs.{needs}
 use lib.ListN.{length, drop, getD, length-set}
 use lib.Seq.{sets}
 use Rattle.pgns.specs.Turns.{kept-turn, passed-turn, owed-kept, owed-skipped, owed-end}
-use Rattle.pgns.specs.Lists.{owedOf}
+use Rattle.pgns.specs.Lists.{owedFrom}
 use Rattle.pgns.proofs.owed_each.Statement.{statement}
 use Rattle.pgns.proofs.owed_each.Tie as tie
 
@@ -19,8 +19,8 @@ Inv-loop dst₀ wanted list present refused k₀ i₀ dst k i =
     (i ≤ length wanted)
     × (k ≤ i)
     × (length dst ≡ length dst₀)
-    × (length (owedOf wanted list present refused) ≡ k + length (owedOf (drop i wanted) list present refused))
-    × (sets dst₀ 0 (owedOf wanted list present refused) ≡ sets dst k (owedOf (drop i wanted) list present refused))
+    × (length (owedFrom wanted list present refused) ≡ k + length (owedFrom (drop i wanted) list present refused))
+    × (sets dst₀ 0 (owedFrom wanted list present refused) ≡ sets dst k (owedFrom (drop i wanted) list present refused))
 
 abbrev μ-loop : tie.MeasureT-loop
 μ-loop dst₀ wanted list present refused k₀ i₀ dst k i = length wanted - i
@@ -58,7 +58,7 @@ loop-again c =
     let l = c .before .before .before .before .loop in
     let s = c .before .skipped in
     let x : ℕ = getD (a .wanted .now) (l .i) 0 in
-    let rest : List ℕ = owedOf (drop (l .i + 1) (a .wanted .now)) (a .list .now) (a .present .now) (a .refused .now) in
+    let rest : List ℕ = owedFrom (drop (l .i + 1) (a .wanted .now)) (a .list .now) (a .present .now) (a .refused .now) in
     let h : l .i < length (a .wanted .now) = omega arith in
     ⊎-elim
     (λ w.

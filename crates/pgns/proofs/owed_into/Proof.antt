@@ -4,7 +4,7 @@ use mathlib.Core.Path.{ap, _∙_}
 use borrow.Author.Needs.{needs}
 use lib.ListN.{length, take, length-take}
 use lib.Seq.{sets}
-use Rattle.pgns.specs.Lists.{owedOf}
+use Rattle.pgns.specs.Lists.{owedFrom}
 use Rattle.pgns.specs.Turns.{owed-room, owed-full, owed-same}
 use Rattle.pgns.proofs.owed_into.Statement.{statement}
 use Rattle.pgns.proofs.owed_into.Tie as tie
@@ -12,7 +12,7 @@ use Rattle.pgns.proofs.owed_into.Tie as tie
 returns : tie.Need-returns
 returns c =
     let a = c .before .before .before .before .before .before .args in
-    owed-full (a .dst .now) (owedOf (take (a .w) (a .wanted .now)) (take (a .l) (a .list .now)) (take (a .p) (a .present .now)) (take (a .r) (a .refused .now))) (a .w) (omega arith)
+    owed-full (a .dst .now) (owedFrom (take (a .w) (a .wanted .now)) (take (a .l) (a .list .now)) (take (a .p) (a .present .now)) (take (a .r) (a .refused .now))) (a .w) (omega arith)
 
 first-requires : tie.Need-first-requires
 first-requires c κs = search needs
@@ -45,7 +45,7 @@ returns-2 c =
     let a = e .before .before .before .before .before .before .args in
     let n = c .before .before .owed-each in
     let o = owed-same (f1 .first .ensures) (f2 .first2 .ensures) (f3 .first3 .ensures) (f4 .first4 .ensures) in
-    owed-room (a .dst .now) (owedOf (take (a .w) (a .wanted .now)) (take (a .l) (a .list .now)) (take (a .p) (a .present .now)) (take (a .r) (a .refused .now))) (a .w)
+    owed-room (a .dst .now) (owedFrom (take (a .w) (a .wanted .now)) (take (a .l) (a .list .now)) (take (a .p) (a .present .now)) (take (a .r) (a .refused .now))) (a .w)
     (e .if1 .left) (n .ensures .0 ∙ ap length o) (n .ensures .1 ∙ ap (sets (a .dst .now) 0) o)
 
 pub owed-into-spec : {M : Type 1} → statement M

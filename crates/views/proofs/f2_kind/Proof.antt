@@ -4,7 +4,7 @@ use borrow.Author.Tests.{not-true, not-false}
 use borrow.Author.Needs.{needs}
 use lib.IntN.{pos}
 use Rattle.replies.specs.declared.bem.BemHeader.{BemHeader}
-use Rattle.views.specs.ViewsLaws.{f2-alien, f2-part, f2-wrong, no-error, some-error, bits-are, bits-differ}
+use Rattle.views.specs.ViewsLaws.{f2-other, f2-part, f2-wrong, no-error, some-error, bits-are, bits-differ}
 use Rattle.views.proofs.f2_kind.Statement.{statement}
 use Rattle.views.proofs.f2_kind.Tie as tie
 
@@ -13,7 +13,7 @@ is-format2-requires c κs = search needs
 
 returns : tie.Need-returns
 returns c =
-    let s = c .before .is-format2 in f2-alien (c .before .before .before .args .m .now) (sym (s .ensures) ∙ not-true (s .result) (c .if1 .taken))
+    let s = c .before .is-format2 in f2-other (c .before .before .before .args .m .now) (sym (s .ensures) ∙ not-true (s .result) (c .if1 .taken))
 
 header-requires : tie.Need-header-requires
 header-requires c κs = search needs

@@ -3,14 +3,14 @@ use native.Mathlib.Omega.{arith}
 use mathlib.Core.Path.{_≡_}
 use borrow.Author.Needs.{needs}
 use lib.ListN.{length}
-use Rattle.phases.specs.AnswersLaws.{marked}
+use Rattle.phases.specs.AnswersLaws.{marks-is}
 use Rattle.phases.specs.Lent.{lent, syncOf}
 use Rattle.phases.proofs.answers.mark.Statement.{statement}
 use Rattle.phases.proofs.answers.mark.Tie as tie
 
 abbrev entry : tie.After-push-if-arg4 → tie.Start
 entry c =
-    c .before .before .before .before .before .before .before .before .before .before .before .before .before .before .before .before .before .before .before .before .before
+    c .before .before .before .before .before .before .before .before .before .before .before .before .before .before .before .before .before .before .before
 
 fresh-is : (c : tie.After-push-if-arg4) → length (entry c .args .fresh .now) ≡ 64
 fresh-is c = let g = c .push-if-arg4 .given in search needs
@@ -18,14 +18,11 @@ fresh-is c = let g = c .push-if-arg4 .given in search needs
 enable-result-requires : tie.Need-enable-result-requires
 enable-result-requires c κs = search needs
 
-is-good-requires : tie.Need-is-good-requires
-is-good-requires c κs = search needs
+tests-of-requires : tie.Need-tests-of-requires
+tests-of-requires c κs = search needs
 
 absent-requires : tie.Need-absent-requires
 absent-requires c κs = search needs
-
-is-now-requires : tie.Need-is-now-requires
-is-now-requires c κs = search needs
 
 absent-requires-2 : tie.Need-absent-requires-2
 absent-requires-2 c κs = search needs
@@ -33,14 +30,8 @@ absent-requires-2 c κs = search needs
 push-if-requires : tie.Need-push-if-requires
 push-if-requires c κs = search needs
 
-is-there-requires : tie.Need-is-there-requires
-is-there-requires c κs = search needs
-
 push-if-requires-2 : tie.Need-push-if-requires-2
 push-if-requires-2 c κs = search needs
-
-is-denied-requires : tie.Need-is-denied-requires
-is-denied-requires c κs = search needs
 
 push-if-requires-3 : tie.Need-push-if-requires-3
 push-if-requires-3 c κs = search needs
@@ -48,28 +39,25 @@ push-if-requires-3 c κs = search needs
 push-if-requires-4 : tie.Need-push-if-requires-4
 push-if-requires-4 c κs = omega (arith, fresh-is c, entry c .pre .3)
 
--- u, q, p, k: after the pushes to fresh, refused, present, known; n, v: after the looks into saved, known
+-- u, q, p, k: after the pushes to fresh, refused, present, known; n, v: after the looks into saved, known; t: after the tests
 returns : tie.Need-returns
 returns c =
     let u = c .before .before .before .before in
     let q = u .before .before in
-    let p = q .before .before .before in
-    let k = p .before .before .before in
+    let p = q .before .before in
+    let k = p .before .before in
     let n = k .before .before in
-    let v = n .before .before .before in
-    let g = v .before .before in
-    let r = g .before .before .before .before .before in
+    let v = n .before .before in
+    let t = v .before .before .before .before .before .before .before in
+    let r = t .before in
     let a = r .before .before .args in
     λ w o l f e.
-    marked
+    marks-is
     (syncOf (a .x) (lent w o (a .fresh .now) l (a .known .now) (a .saved .now) (a .present .now) (a .refused .now) f))
     (a .payload .now)
     (r .enable-result .ensures)
+    (t .tests-of .ensures)
     e
-    (g .is-good .ensures)
-    (n .before .is-now .ensures)
-    (p .before .is-there .ensures)
-    (q .before .is-denied .ensures)
     (v .absent .ensures)
     (n .absent2 .ensures)
     (k .push-if .ensures)
@@ -82,14 +70,11 @@ mark-spec =
     tie.close
     (tie.spec
     enable-result-requires
-    is-good-requires
+    tests-of-requires
     absent-requires
-    is-now-requires
     absent-requires-2
     push-if-requires
-    is-there-requires
     push-if-requires-2
-    is-denied-requires
     push-if-requires-3
     push-if-requires-4
     returns)

@@ -1,7 +1,7 @@
 -- `phases::parts::on_f2` meets its contract. Assumes nothing.
 use mathlib.Core.Path.{ap, _∙_}
 use borrow.Author.Needs.{needs}
-use Rattle.views.specs.declared.F2Kind.the-variants.{Wrong, Part, Alien}
+use Rattle.views.specs.declared.F2Kind.the-variants.{Wrong, Part, Neither}
 use Rattle.tx_list.specs.Moves.{inF2}
 use Rattle.phases.specs.declared.PartStep.{PartStep}
 use Rattle.phases.specs.Lent.{lent, syncOf, toldPart}
@@ -57,7 +57,7 @@ returns-3 c =
     let k = c .before .before in
     let a = k .before .before .args in
     λ u l s.
-    in-f2 (a .payload .now) Alien (syncOf (a .x) (lent (a .wanted .now) (a .owed .now) u l (a .known .now) s (a .present .now) (a .refused .now) (a .f2))) (a .time) (k .f2-kind .ensures) (c .enum-told3 .given .1)
+    in-f2 (a .payload .now) Neither (syncOf (a .x) (lent (a .wanted .now) (a .owed .now) u l (a .known .now) s (a .present .now) (a .refused .now) (a .f2))) (a .time) (k .f2-kind .ensures) (c .enum-told3 .given .1)
 
 pub on-f2-spec : {M : Type 1} → statement M
 on-f2-spec =
