@@ -1,0 +1,230 @@
+// The start-up as it goes on: the session and the decoder, and what a line of the script does to them. What a call does is proved in
+// `session` and `framing`; here calls are made and told.
+use crate::change::AWAIT;
+use crate::change::Change;
+use crate::change::DONE;
+use crate::change::put_change;
+use crate::change::seen_of;
+use crate::text::put_count;
+use crate::text::put_line;
+use crate::text::put_number;
+use crate::text::put_time;
+use framing::Decoder;
+use framing::Event;
+use libc::STDOUT_FILENO;
+use session::Called;
+use session::List256;
+use session::TxListRecord;
+use session::TxListSync;
+use transcript::first;
+use transcript::put;
+
+const GATEWAY: u8 = 0xA0;
+
+pub(crate) struct Play {
+    pub sync: TxListSync,
+    pub decoder: Decoder,
+    // How many PGNs the gateway's list had when it was read.
+    pub listed: usize,
+    // The time of the line before, and how many messages and errors there were.
+    pub time: u64,
+    pub messages: u64,
+    pub others: u64,
+    pub errors: u64,
+}
+
+// The record of a helm that knows nothing yet.
+pub(crate) fn no_record() -> TxListRecord {
+    let none = List256 {
+        pgns: [0; 256],
+        n: 0,
+    };
+    TxListRecord {
+        saved: none,
+        present: none,
+        refused: none,
+    }
+}
+
+// A session just begun, and a new decoder.
+pub(crate) fn new(sync: TxListSync) -> Play {
+    let decoder = Decoder::new();
+    Play {
+        sync,
+        decoder,
+        listed: 0,
+        time: 0,
+        messages: 0,
+        others: 0,
+        errors: 0,
+    }
+}
+
+// The start-up with another session.
+fn with_sync(play: Play, sync: TxListSync, listed: usize) -> Play {
+    let decoder = play.decoder;
+    Play {
+        sync,
+        decoder,
+        listed,
+        time: play.time,
+        messages: play.messages,
+        others: play.others,
+        errors: play.errors,
+    }
+}
+
+// The start-up with another decoder.
+fn with_decoder(play: Play, decoder: Decoder) -> Play {
+    let sync = play.sync;
+    Play {
+        sync,
+        decoder,
+        listed: play.listed,
+        time: play.time,
+        messages: play.messages,
+        others: play.others,
+        errors: play.errors,
+    }
+}
+
+fn tell(text: &[u8], n: usize) {
+    io::write_all(STDOUT_FILENO, first(text, n));
+}
+
+// How many PGNs the list had, once it is read.
+fn listed(before: usize, c: Change) -> usize {
+    if !c.old.read & c.new.read {
+        return c.new.known;
+    }
+    before
+}
+
+// Tells of a call, and goes on with the session that it left.
+fn called(play: Play, time: u64, is_tick: bool, c: Called, bytes: &[u8], text: &mut [u8]) -> Play {
+    let sync = c.sync;
+    let change = Change {
+        time,
+        number: c.number,
+        is_tick,
+        old: seen_of(play.sync),
+        new: seen_of(sync),
+    };
+    let n = put_change(text, change, first(bytes, c.count));
+    tell(text, n);
+    with_sync(play, sync, listed(play.listed, change))
+}
+
+fn message(play: Play, time: u64, payload: &[u8], text: &mut [u8]) -> Play {
+    let mut out = [0u8; 32];
+    let c = play.sync.message(time, payload, &mut out);
+    called(play, time, false, c, &out, text)
+}
+
+pub(crate) fn tick(play: Play, time: u64, text: &mut [u8]) -> Play {
+    let mut out = [0u8; 32];
+    let c = play.sync.tick(time, &mut out);
+    called(play, time, true, c, &out, text)
+}
+
+pub(crate) fn firmware(play: Play, time: u64, version: u16, text: &mut [u8]) -> Play {
+    let b = play.sync.set_firmware(version);
+    let n = put_count(text, 0, time, b"firmware ", version as u64, b"");
+    tell(text, n);
+    let sync = b.sync;
+    with_sync(play, sync, play.listed)
+}
+
+fn put_error(out: &mut [u8], time: u64, event: Event) -> usize {
+    match event {
+        Event::ShortMessage => put_line(out, 0, time, b"error 1: a frame shorter than 3 bytes"),
+        Event::BadChecksum => put_line(out, 0, time, b"error 2: a frame with a wrong checksum"),
+        Event::LengthMismatch {
+            declared: _,
+            actual: _,
+        } => put_line(
+            out,
+            0,
+            time,
+            b"error 3: a frame of another length than it says",
+        ),
+        Event::BadEscape(_) => put_line(out, 0, time, b"error 4: a DLE before a wrong byte"),
+        Event::TooLong => put_line(out, 0, time, b"error 5: a frame over 1024 bytes"),
+        _ => 0,
+    }
+}
+
+fn error(play: Play, time: u64, event: Event, text: &mut [u8]) -> Play {
+    let n = put_error(text, time, event);
+    tell(text, n);
+    let mut p = play;
+    let errors = std::num::wrapping_add_u64(p.errors, 1);
+    p.errors = errors;
+    p
+}
+
+// A message of the gateway is for the session; others (records of the bus) are only counted.
+fn heard(play: Play, time: u64, command: u8, event: Event, buf: &[u8], text: &mut [u8]) -> Play {
+    let mut p = play;
+    if command != GATEWAY {
+        let others = std::num::wrapping_add_u64(p.others, 1);
+        p.others = others;
+        return p;
+    }
+    let messages = std::num::wrapping_add_u64(p.messages, 1);
+    p.messages = messages;
+    message(p, time, framing::payload(buf, event), text)
+}
+
+fn happened(play: Play, time: u64, event: Event, buf: &[u8], text: &mut [u8]) -> Play {
+    match event {
+        Event::Quiet => play,
+        Event::Message { command, len: _ } => heard(play, time, command, event, buf, text),
+        _ => error(play, time, event, text),
+    }
+}
+
+// One byte of the serial line.
+fn byte(play: Play, time: u64, b: u8, buf: &mut [u8], text: &mut [u8]) -> Play {
+    let r = play.decoder.push_byte(buf, b);
+    let event = r.event;
+    let decoder = r.decoder;
+    happened(with_decoder(play, decoder), time, event, buf, text)
+}
+
+pub(crate) fn wire(play: Play, time: u64, bytes: &[u8], buf: &mut [u8], text: &mut [u8]) -> Play {
+    let mut p = play;
+    let mut i = 0;
+    while i < bytes.len() {
+        p = byte(p, time, bytes[i], buf, text);
+        i += 1;
+    }
+    p
+}
+
+fn is_waiting(phase: u8) -> bool {
+    (phase != AWAIT) & (phase != DONE)
+}
+
+// The line of a clock that went back, with the due time that the session keeps.
+fn put_back(out: &mut [u8], time: u64, by: u64, phase: u8, deadline: u64) -> usize {
+    let a = put_time(out, 0, time);
+    let b = put_number(out, a, b"the clock went back ", by, b" ms");
+    if !is_waiting(phase) {
+        return put(out, b, b'\n');
+    }
+    put_number(out, b, b": the session waits until ", deadline, b"\n")
+}
+
+// The time of a line, which may be before that of the line before it.
+pub(crate) fn clock(play: Play, time: u64, text: &mut [u8]) -> Play {
+    let last = play.time;
+    let mut p = play;
+    p.time = time;
+    if time < last {
+        let s = seen_of(p.sync);
+        let n = put_back(text, time, last - time, s.phase, s.deadline);
+        tell(text, n);
+    }
+    p
+}
