@@ -3,7 +3,7 @@
 use Prim.Native.Nat.{ℕ, _+_, _^_, _≤_, _<_}
 use native.Mathlib.Omega.{arith}
 use mathlib.Core.Path.{_≡_, refl, ap, sym, _∙_}
-use mathlib.Core.List.{List, [], _∷_, _++_}
+use mathlib.Core.List.{List, [], _∷_, _++_, map}
 use mathlib.Core.Logic.{inl}
 use lib.ListN.{length}
 use lib.Seq.{sets, length-sets}
@@ -30,6 +30,13 @@ pub listing-written : (buf : List ℕ) (chunks : List Chunk) → 1024 ≤ length
     → chunked 1 0 (state Idle 0 buf) chunks .text ≡ listing 1 0 (state Idle 0 buf) (input chunks)
 listing-written buf chunks h l =
     ap (λ (r : Run). r .text) (chunked-listing 1 0 (state Idle 0 buf) chunks (new-formed buf h) (omega arith) (omega arith))
+
+-- the table: "11 mode, 13 pcode, 40 supported, 41 product-info, 47 enable, 49 tx-list-f1, 4F tx-list-f2, F0 startup, F1 error, F4 nack", "else other"
+pub names :
+    map (λ b. bemOf 0xA0 (b ∷ [])) (0x11 ∷ 0x13 ∷ 0x40 ∷ 0x41 ∷ 0x47 ∷ 0x49 ∷ 0x4F ∷ 0xF0 ∷ 0xF1 ∷ 0xF4 ∷ 0x12 ∷ [])
+    ≡ ascii "mode" ∷ ascii "pcode" ∷ ascii "supported" ∷ ascii "product-info" ∷ ascii "enable" ∷ ascii "tx-list-f1" ∷ ascii "tx-list-f2" ∷ ascii "startup" ∷ ascii "error" ∷ ascii "nack" ∷ ascii "other" ∷ []
+unfolding asciiFrom nameOf nameText bemOf
+names = refl
 
 -- the second event: 10 03 while idle
 tail-line : (buf : List ℕ) → 1024 ≤ length buf → listing 2 8 (state Idle 0 buf) (0x10 ∷ 0x03 ∷ []) ≡ ascii "n=2 at=9 kind=err no=1\n"

@@ -13,7 +13,7 @@ use Rattle.lists.specs.declared.F2List.{F2List}
 use Rattle.tx_list.specs.declared.State.{State}
 use Rattle.tx_list.specs.declared.State.the-variants.{AwaitStartup, ReadAt, ReadingF2, Reading as ReadingF1, Enabling, Committing, Activating, Done}
 use Rattle.tx_list.specs.Reading.{message, tick, Verdict, taken, refuse, unless, vetMessage, vetTick}
-use Rattle.tx_list.specs.Session.{Record, isDone, allLe, oldBounds, begins, lacks}
+use Rattle.tx_list.specs.Session.{Record, isDone, allLe, oldBounds, begins, beginBy, lacks}
 use Rattle.tx_list.specs.Stored as stored
 use Rattle.tx_list.specs.Stored.{CallAnswer}
 use Rattle.tx_list.specs.Memory.{Flat, Sized, phaseIn, absFlat, writeFlat}
@@ -23,6 +23,11 @@ use Rattle.tx_list.proofs.MovesSound.{sound-is}
 use Rattle.tx_list.proofs.MovesLaws.{message-law, tick-law, firmware-law, restart-law, abandon-law, begin-law}
 use Rattle.phases.specs.Sync.{Sync, Begun, kind, same, Learned, store, clear, frameOf, Told, gave, called, begun, setTo, restarted, abandoned, begunWith, recordOf, sound, recordFits, doneIn, doneOf, says, refused, lackOf, stepOf, wroteStep}
 use Rattle.phases.specs.declared.IsDone.{IsDone}
+use Rattle.phases.specs.declared.Numbers.{Numbers}
+use Rattle.phases.specs.Lent.{Arrays, Fits, syncOf, openedWith, wanting, begunIn}
+use Rattle.phases.specs.Sync.{learnedIn}
+use Rattle.tx_list.specs.Session as session
+use Rattle.tx_list.specs.Stored.{opens}
 
 -- a refusal, and a step taken
 abbrev pub byVerdict : Verdict → Sync → Moved F2List ℕ → List ℕ → Told
@@ -249,3 +254,22 @@ record-counts r e =
       leb-true _ _ (right-true (leb (r .saved .n) 192) (leb (r .present .n) 192) a),
       leb-true _ _ (right-true (leb (r .saved .n) 192 && leb (r .present .n) 192) (leb (r .refused .n) 192) e),
     )
+
+-- begin in lent memory refuses with the number of module 6's begin
+pub begin-number : (x : Numbers) (want : List ℕ) (a : Arrays) → Fits a
+    → begunIn x want a .number ≡ begunWith want (recordOf (learnedIn (syncOf x a))) .number
+unfolding begunIn opens stored.answer session.begin beginBy
+begin-number x want a z =
+    let l = learnedIn (syncOf x a) in
+    let e = old-lists l (record { saved-256 = z .saved-256; present-256 = z .present-256; refused-256 = z .refused-256 }) in
+    go (ltb 64 (length want)) (recordFits l)
+    ∙ ap (λ (v : Bool). stored.answer kind store clear (beginBy kind (ltb 64 (length want)) v want (recordOf l)) .no) (sym e)
+  where
+    go : (u v : Bool)
+        → _≡_ {A = ℕ} (pick {A = Begun} u (record { number = 11; sync = syncOf x a })
+        (pick {A = Begun} v (record { number = 0; sync = syncOf (openedWith (x .totals .counts) (length want)) (wanting a want) })
+        (record { number = 12; sync = syncOf x a })) .number)
+        (stored.answer kind store clear (beginBy kind u v want (recordOf (learnedIn (syncOf x a)))) .no)
+    go true v = refl
+    go false true = refl
+    go false false = refl

@@ -22,7 +22,7 @@ use Rattle.session.specs.LentPlayed.{InLentMemory}
 use Rattle.phases.specs.ReadingLaws.{front-read}
 use Rattle.session.specs.Played.{Played, Holds, heldBy}
 use Rattle.session.specs.StartUp.{StartedUp}
-use Rattle.phases.proofs.CallLaws.{restart-by, judged, record-within, record-counts}
+use Rattle.phases.proofs.CallLaws.{restart-by, judged, record-within, record-counts, begin-number}
 use Rattle.session.proofs.Demand3.{demand3}
 use Rattle.session.proofs.StartUp as lives
 
@@ -91,6 +91,7 @@ begin-taken x want a r e n = taken-by (ltb 64 (length want)) (recordFits (learne
 pub in-lent-memory : InLentMemory
 in-lent-memory =
     record {
+      begin-number = begin-number;
       demand-3 = λ x w a r z e n calls last bytes p.
           let q = begin-taken x w a r e n in
           let h = ltb-false 64 (length w) (q .0) in

@@ -5,14 +5,19 @@ use mathlib.Core.Path.{_≡_}
 use mathlib.Core.List.{List, []}
 use Rattle.tx_list.specs.Reading.{Call}
 use Rattle.tx_list.specs.Live.{Gateway, Helpful, Mixed, startUp}
-use Rattle.phases.specs.Sync.{Sync, Begun, kind, recordOf, learnedIn}
+use Rattle.phases.specs.Sync.{Sync, Begun, kind, begunWith, recordOf, learnedIn}
 use Rattle.phases.specs.declared.Numbers.{Numbers}
 use Rattle.phases.specs.Lent.{Arrays, Fits, syncOf, begunIn}
 use Rattle.session.specs.Played.{Played, Holds, heldBy}
 use Rattle.session.specs.StartUp.{StartedUp}
 
--- what `begin` leaves of numbers and arrays, where it does not refuse; the old record is the one that stands in the arrays
+-- what `begin` answers, and of what it leaves of numbers and arrays where it does not refuse; the old record is the one that stands in the arrays
 pub record InLentMemory : Type 0 where
+  -- "Begin 11, 12": it refuses what the model's begin refuses, with the same number
+  pub begin-number :
+      (x : Numbers) (w : List ℕ) (a : Arrays)
+      → Fits a
+      → begunIn x w a .number ≡ begunWith w (recordOf (learnedIn (syncOf x a))) .number
   pub demand-3 :
       (x : Numbers) (w : List ℕ) (a : Arrays) (r : Begun)
       → Fits a

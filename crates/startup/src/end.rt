@@ -6,6 +6,7 @@ use crate::text::put_number;
 use libc::STDOUT_FILENO;
 use session::Held;
 use session::Known;
+use session::List64;
 use session::TxListRecord;
 use transcript::first;
 use transcript::put;
@@ -46,20 +47,20 @@ fn put_transmits(out: &mut [u8], n: usize, t: Transmits) -> usize {
     }
 }
 
-fn tell_one(learned: TxListRecord, known: Known, listed: usize, pgn: u32, text: &mut [u8]) {
+fn tell_one(learned: TxListRecord, fresh: List64, known: Known, pgn: u32, text: &mut [u8]) {
     let a = put_decimal(text, 0, pgn as u64);
     let n = put_transmits(
         text,
         a,
-        transmits::will_transmit(learned, known, listed, pgn),
+        transmits::will_transmit(learned, fresh, known, pgn),
     );
     io::write_all(STDOUT_FILENO, first(text, n));
 }
 
-fn tell_each(learned: TxListRecord, known: Known, listed: usize, wanted: &[u32], text: &mut [u8]) {
+fn tell_each(learned: TxListRecord, fresh: List64, known: Known, wanted: &[u32], text: &mut [u8]) {
     let mut i = 0;
     while i < wanted.len() {
-        tell_one(learned, known, listed, wanted[i], text);
+        tell_one(learned, fresh, known, wanted[i], text);
         i += 1;
     }
 }
@@ -108,13 +109,13 @@ pub(crate) fn first_pgns(list: &[u32], count: usize) -> &[u32] {
     &list[..count]
 }
 
-fn tell_held(h: Held, listed: usize, text: &mut [u8]) {
+fn tell_held(h: Held, text: &mut [u8]) {
     let wanted = h.wanted;
     let learned = h.learned;
     tell_each(
         learned,
+        h.fresh,
         h.known,
-        listed,
         first_pgns(&wanted.pgns, wanted.n),
         text,
     );
@@ -128,5 +129,5 @@ pub(crate) fn tell_end(play: Play, text: &mut [u8]) {
     let a = put_phase(text, 0, phase_of(st));
     let n = put_tally(text, a, play.messages, play.others, play.errors);
     io::write_all(STDOUT_FILENO, first(text, n));
-    tell_held(sync.held, play.listed, text);
+    tell_held(sync.held, text);
 }

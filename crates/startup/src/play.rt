@@ -24,8 +24,6 @@ const GATEWAY: u8 = 0xA0;
 pub(crate) struct Play {
     pub sync: TxListSync,
     pub decoder: Decoder,
-    // How many PGNs the gateway's list had when it was read.
-    pub listed: usize,
     // The time of the line before, and how many messages and errors there were.
     pub time: u64,
     pub messages: u64,
@@ -52,7 +50,6 @@ pub(crate) fn new(sync: TxListSync) -> Play {
     Play {
         sync,
         decoder,
-        listed: 0,
         time: 0,
         messages: 0,
         others: 0,
@@ -61,12 +58,11 @@ pub(crate) fn new(sync: TxListSync) -> Play {
 }
 
 // The start-up with another session.
-fn with_sync(play: Play, sync: TxListSync, listed: usize) -> Play {
+fn with_sync(play: Play, sync: TxListSync) -> Play {
     let decoder = play.decoder;
     Play {
         sync,
         decoder,
-        listed,
         time: play.time,
         messages: play.messages,
         others: play.others,
@@ -80,7 +76,6 @@ fn with_decoder(play: Play, decoder: Decoder) -> Play {
     Play {
         sync,
         decoder,
-        listed: play.listed,
         time: play.time,
         messages: play.messages,
         others: play.others,
@@ -90,14 +85,6 @@ fn with_decoder(play: Play, decoder: Decoder) -> Play {
 
 fn tell(text: &[u8], n: usize) {
     io::write_all(STDOUT_FILENO, first(text, n));
-}
-
-// How many PGNs the list had, once it is read.
-fn listed(before: usize, c: Change) -> usize {
-    if !c.old.read & c.new.read {
-        return c.new.known;
-    }
-    before
 }
 
 // Tells of a call, and goes on with the session that it left.
@@ -112,7 +99,7 @@ fn called(play: Play, time: u64, is_tick: bool, c: Called, bytes: &[u8], text: &
     };
     let n = put_change(text, change, first(bytes, c.count));
     tell(text, n);
-    with_sync(play, sync, listed(play.listed, change))
+    with_sync(play, sync)
 }
 
 fn message(play: Play, time: u64, payload: &[u8], text: &mut [u8]) -> Play {
@@ -132,7 +119,7 @@ pub(crate) fn firmware(play: Play, time: u64, version: u16, text: &mut [u8]) -> 
     let n = put_count(text, 0, time, b"firmware ", version as u64, b"");
     tell(text, n);
     let sync = b.sync;
-    with_sync(play, sync, play.listed)
+    with_sync(play, sync)
 }
 
 fn put_error(out: &mut [u8], time: u64, event: Event) -> usize {

@@ -1,50 +1,37 @@
--- Laws of the answer, one for each way, and of a part of a part of a list. Assumes nothing.
-use mathlib.Core.Bool.{Bool, true, false, not, _||_}
-use mathlib.Core.Path.{_≡_, refl, sym, ap}
+-- Laws of the answer, one for each way. Assumes nothing.
+use mathlib.Core.Bool.{Bool, true, false, _&&_, _||_}
+use mathlib.Core.Path.{_≡_}
 use mathlib.Core.List.{List}
-use Prim.Native.Nat.{ℕ, _≤_}
-use native.Mathlib.Omega.{arith}
-use lib.Dec.{leb}
-use borrow.Author.Tests.{leb-true, leb-false}
-use lib.ListN.{take, length-take}
-use lib.Seq.{take-take, take-all}
-use Rattle.tx_list.specs.Views.{has, least}
+use Prim.Native.Nat.{ℕ}
+use Rattle.tx_list.specs.Views.{has}
 use Rattle.tx_list.specs.Session.{Record}
 use Rattle.tx_list.specs.Session.{Known as KnownList}
-use Rattle.pgns.specs.PgnsLaws.{least-low, least-high}
 use Rattle.transmits.specs.Transmits.{answerBy, transmitsOf}
-use Rattle.transmits.specs.declared.Transmits.the-variants.{Saved, Present, Refused, Lacking, Unsaved, Unknown}
+use Rattle.transmits.specs.declared.Transmits.the-variants.{Saved, Unsaved, Present, Refused, Lacking, Unknown}
 
-pub by-present : (s p l r k n : Bool) → s ≡ false → (p || l) ≡ true → Present ≡ answerBy s p l r k n
-by-present s p l r k n e f = rw (e, f)
+pub by-fresh : (s f p r k n : Bool) → s ≡ false → f ≡ true → Unsaved ≡ answerBy s f p r k n
+by-fresh s f p r k n a b = rw (a, b)
 
-pub by-refused : (s p l r k n : Bool) → s ≡ false → (p || l) ≡ false → r ≡ true → Refused ≡ answerBy s p l r k n
-by-refused s p l r k n e f g = rw (e, f, g)
+pub by-present : (s f p r k n : Bool) → s ≡ false → f ≡ false → (p || (k && n)) ≡ true → Present ≡ answerBy s f p r k n
+by-present s f p r k n a b c = rw (a, b, c)
 
-pub by-none : (s p l r k n : Bool) → s ≡ false → (p || l) ≡ false → r ≡ false → not k ≡ true → Unknown ≡ answerBy s p l r k n
-by-none s p l r k n e f g h = rw (e, f, g, h)
+pub by-refused : (s f p r k n : Bool) → s ≡ false → f ≡ false → (p || (k && n)) ≡ false → r ≡ true → Refused ≡ answerBy s f p r k n
+by-refused s f p r k n a b c d = rw (a, b, c, d)
 
-pub by-known : (s p l r k n : Bool) → s ≡ false → (p || l) ≡ false → r ≡ false → not k ≡ false → n ≡ true → Unsaved ≡ answerBy s p l r k n
-by-known s p l r k n e f g h i = rw (e, f, g, h, i)
+pub by-list : (s f p r k n : Bool) → s ≡ false → f ≡ false → (p || (k && n)) ≡ false → r ≡ false → k ≡ true → Lacking ≡ answerBy s f p r k n
+by-list s f p r k n a b c d e = rw (a, b, c, d, e)
 
-pub by-lack : (s p l r k n : Bool) → s ≡ false → (p || l) ≡ false → r ≡ false → not k ≡ false → n ≡ false → Lacking ≡ answerBy s p l r k n
-by-lack s p l r k n e f g h i = rw (e, f, g, h, i)
+pub by-none : (s f p r k n : Bool) → s ≡ false → f ≡ false → (p || (k && n)) ≡ false → r ≡ false → k ≡ false → Unknown ≡ answerBy s f p r k n
+by-none s f p r k n a b c d e = rw (a, b, c, d, e)
 
 -- the answer of these tests is the answer
-pub transmits-is : (r : Record ℕ) (kn : KnownList) (listed p : ℕ) (s q l f n : Bool) → s ≡ has p (r .saved) → q ≡ has p (r .present) → l ≡ has p (take listed (kn .pgns)) → f ≡ has p (r .refused) → n ≡ has p (kn .pgns) → answerBy s q l f (kn .isRead) n ≡ transmitsOf r kn listed p
+pub transmits-is :
+    (r : Record ℕ) (fresh : List ℕ) (kn : KnownList) (p : ℕ) (s f q d n : Bool)
+    → s ≡ has p (r .saved)
+    → f ≡ has p fresh
+    → q ≡ has p (r .present)
+    → d ≡ has p (r .refused)
+    → n ≡ has p (kn .pgns)
+    → answerBy s f q d (kn .isRead) n ≡ transmitsOf r fresh kn p
 unfolding transmitsOf
-transmits-is r kn listed p s q l f n e₁ e₂ e₃ e₄ e₅ = rw (e₁, e₂, e₃, e₄, e₅)
-
--- the first a of the first b are the first of them that are fewer
-pub take-least : (a b : ℕ) (l : List ℕ) → take (least a b) l ≡ take a (take b l)
-take-least a b l = go (leb a b) refl
-  where
-    go : (t : Bool) → leb a b ≡ t → take (least a b) l ≡ take a (take b l)
-    go true e = let h : a ≤ b = leb-true a b e in rw (least-low a b h) (sym (take-take a b l h))
-    go false e =
-        let g = leb-false a b e in
-        let h : b ≤ a = omega (arith, g) in
-        rw (least-high a b h) (sym (take-all a (take b l) (rw length-take (omega (arith, h)))))
-
-pub listed-is : (a b k p : ℕ) (l : List ℕ) → k ≡ least a b → has p (take k l) ≡ has p (take a (take b l))
-listed-is a b k p l e = rw e (ap (has p) (take-least a b l))
+transmits-is r fresh kn p s f q d n e₁ e₂ e₃ e₄ e₅ = rw (e₁, e₂, e₃, e₄, e₅)

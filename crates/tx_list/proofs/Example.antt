@@ -14,7 +14,7 @@ use Rattle.replies.specs.Bem.{headerOf, dataOf}
 use Rattle.replies.specs.Modes.{foundMode, modeOf}
 use Rattle.tx_list.specs.Views.{has, only, note, notes, starts, sequence, parsed, isZero, isAlready, noError, isFound, isMode, pgnsAt, least, groupCount, listPgns, f1By, f1Of, added, f2By, f2Of, answerBy, isAnswer, answerOf, isDenied, isThere, isGood, isFresh, ackBy, ackOf}
 use Rattle.tx_list.specs.Reading.{read1, read40, read4F, enable, commit, activate, Kind, Call, message, tick, firmware, unless, vetMessage, vetTick, full, readMessage, readTick, onMode, onF1, onWhole, onF2, start1, start2, startRead, again1, again2, whenDue, isNew}
-use Rattle.tx_list.specs.Session.{Record, unknown, done, Ran, begins, run, settle, step, gate, onFirmware, full14, onTick, expire, onMessage, onActivate, onCommit, onAnswer, onNext, onTurn, onList, knowing, becomes, wellFormed, countsFit, counts, phaseCounts, partsOkay, owes, sums, sumsFit, knownMax, withSaved, marked, learn, owed}
+use Rattle.tx_list.specs.Session.{Record, unknown, done, Ran, begins, run, settle, step, gate, onFirmware, full14, onTick, expire, onMessage, onActivate, onCommit, onAnswer, onNext, onTurn, onList, knowing, becomes, wellFormed, countsFit, counts, phaseCounts, partsOkay, owes, sums, sumsFit, knownMax, withSaved, marked, learn, owed, lacks, lacksBy, silent as says-nothing, fromWhole, fromPart}
 use Rattle.tx_list.proofs.Demand3.{Lawful}
 
 -- a small session that reads Format 1 only
@@ -192,3 +192,16 @@ turned-down =
 turned-down-sent : after turned-down .sent ≡ read40 ∷ read4F ∷ read1 ∷ read1 ∷ enable 5 ∷ []
 unfolding after unwritten reads-two turned-down run settle step gate onTick onFirmware expire onMessage onTurn onList knowing becomes unknown wellFormed countsFit counts phaseCounts partsOkay owes sums sumsFit knownMax owed begins full14 has only note notes starts sequence parsed isZero noError isFound isMode pgnsAt least groupCount listPgns f1By f1Of added f2By f2Of unless vetMessage vetTick full readMessage readTick onMode onF1 onF2 onWhole start1 start2 startRead again1 again2 whenDue isNew field signed32 headerOf dataOf foundMode modeOf
 turned-down-sent = refl
+
+-- what `lacks` says of the lists that these runs know: a list of Format 1 is partial, one of Format 2 whole; nothing of a PGN that is on it, or where none is known
+lacks-part : lacks (record { isRead = true; isWhole = false; pgns = 5 ∷ 11 ∷ 7 ∷ 14 ∷ [] }) 9 ≡ fromPart
+unfolding lacks lacksBy has
+lacks-part = refl
+
+lacks-whole : lacks (record { isRead = true; isWhole = true; pgns = 5 ∷ 6 ∷ 7 ∷ [] }) 8 ≡ fromWhole
+unfolding lacks lacksBy has
+lacks-whole = refl
+
+lacks-nothing : (lacks (record { isRead = true; isWhole = true; pgns = 5 ∷ 6 ∷ 7 ∷ [] }) 7 ≡ says-nothing) × (lacks unknown 8 ≡ says-nothing)
+unfolding lacks lacksBy has unknown
+lacks-nothing = (refl, refl)
