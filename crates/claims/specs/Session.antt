@@ -2,7 +2,7 @@
 -- from a session just begun or restarted; and what follows of a gateway that helps.
 -- The statements are `Demand3` of session/specs/Played, over the claim of tx_list/specs/Demand and the observer of tx_list/specs/Observer, and `StartUp` of session/specs/StartUp. The functions' contracts
 -- equate each answer with the definitions that these statements are about. Assumes nothing.
-use Rattle.session.specs.Played.{Played, Demand3, Taken}
+use Rattle.session.specs.Played.{Played, Demand3, Taken, heldBy}
 use Rattle.session.specs.StartUp.{StartUp, StartedUp}
 use Rattle.session.specs.LentPlayed.{InLentMemory}
 use Rattle.session.proofs.Demand3 as proved
@@ -10,7 +10,14 @@ use Rattle.session.proofs.StartUp as lives
 use Rattle.session.proofs.LentDemand as lent
 use Rattle.session.proofs.Tilt.{wanted, nothing, newer, older, newer-tilts, older-tilts}
 use Rattle.phases.specs.Sync.{Sync, kind, begunWith}
-use Rattle.tx_list.specs.Live.{startUp}
+use Rattle.tx_list.specs.Views.{has}
+use Rattle.tx_list.specs.Session.{Record, Known}
+use Rattle.tx_list.specs.Live.{Gateway, startUp}
+use Rattle.pgns.specs.Turns.{map-same}
+use Rattle.transmits.specs.Transmits.{transmitsOf, isTransmitted}
+use Rattle.transmits.specs.TransmitsLaws as TransmitsLaws
+use mathlib.Core.Bool.{true, false}
+use mathlib.Core.Path.{_≡_, ap, _∙_}
 use mathlib.Core.List.{List}
 use Prim.Native.Nat.{ℕ}
 
@@ -39,3 +46,16 @@ tilt-2690 = newer-tilts
 pub tilt-older : (last : Sync) (bytes : List ℕ) → Played (begunWith wanted nothing .sync) (startUp kind wanted nothing older) last bytes
     → StartedUp wanted nothing older last bytes
 tilt-older = older-tilts
+
+-- and what is told of it then (`transmits::will_transmit`, the program startup): every wanted PGN that was not refused before will be transmitted, where what the session
+-- enabled itself (fresh) is saved
+pub transmitted :
+    (w : List ℕ) (old : Record ℕ) (g : Gateway) (last : Sync) (bytes : List ℕ) (fresh : List ℕ) (p : ℕ)
+    → StartedUp w old g last bytes
+    → (has p fresh ≡ true → has p (heldBy last .rec .saved) ≡ true)
+    → has p w ≡ true
+    → has p (old .refused) ≡ false
+    → isTransmitted (transmitsOf (heldBy last .rec) fresh (heldBy last .known) p) ≡ true
+transmitted w old g last bytes fresh p u h a b =
+    TransmitsLaws.transmitted (heldBy last .rec) fresh (heldBy last .known) p h (ap (λ (k : Known). k .isRead) (u .started .known))
+    (u .started .served p a (ap (has p) (map-same (old .refused)) ∙ b))

@@ -249,7 +249,7 @@ pgns-split (suc g) n l at m from =
 
 -- What is owed
 
-map-same : (l : List ℕ) → map (λ (x : ℕ). x) l ≡ l
+pub map-same : (l : List ℕ) → map (λ (x : ℕ). x) l ≡ l
 map-same [] = refl
 map-same (x ∷ l) = ap {B = List ℕ} (λ (o : List ℕ). x ∷ o) (map-same l)
 

@@ -2,7 +2,7 @@
 use Prim.Native.Nat.{ℕ}
 use mathlib.Core.Path.{_≡_, refl, sym, ap, _∙_, subst}
 use mathlib.Core.Bool.{Bool, true, false, not, _&&_}
-use mathlib.Core.List.{List, [], _∷_, map}
+use mathlib.Core.List.{List, [], _∷_}
 use Rattle.field.specs.Pick.{pick}
 use Rattle.lists.specs.declared.F2List.{F2List}
 use Rattle.tx_list.specs.Views.{has}
@@ -16,6 +16,7 @@ use Rattle.tx_list.specs.LiveKept.{Up, Live-kept}
 use Rattle.tx_list.proofs.LiveKept.{live-kept}
 use Rattle.phases.specs.Sync.{Sync, Begun, kind, store, begun, restarted, begunWith, sound, doneOf, says, refused, lackOf}
 use Rattle.phases.specs.declared.IsDone.{IsDone}
+use Rattle.pgns.specs.Turns.{map-same}
 use Rattle.session.specs.Played.{Played, Reads, Holds, heldBy}
 use Rattle.session.specs.StartUp.{StartedUp, StartUp}
 use Rattle.session.proofs.Demand3.{lawful, faithful, demand3, from, played-runs, reads-wire}
@@ -33,10 +34,6 @@ refused-by false z s σ h = absurd (h refl)
 unrefused-sound : (s : Sync) → ((x : Call) → stored.called kind store s x .no ≡ 16 → ⊥) → sound s ≡ true
 unfolding stored.called step
 unrefused-sound s h = refused-by (store .counted s) (wellFormed kind (store .abs s)) s (store .abs s) (h (firmware 0))
-
-map-same : (l : List ℕ) → map (λ (p : ℕ). p) l ≡ l
-map-same [] = refl
-map-same (x ∷ l) = ap (λ (t : List ℕ). x ∷ t) (map-same l)
 
 done-is : (last : Sync) → sound last ≡ true → isDone (absFlat last .phase) ≡ true → doneOf last ≡ record { number = 0; done = true }
 done-is last e d =

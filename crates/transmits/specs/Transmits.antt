@@ -1,5 +1,5 @@
 -- Whether the gateway will transmit a PGN, from what a session learnt (document 01, module 6: the record and the known list). Assumes nothing.
-use mathlib.Core.Bool.{Bool, _&&_, _||_}
+use mathlib.Core.Bool.{Bool, true, false, _&&_, _||_}
 use mathlib.Core.List.{List}
 use Prim.Native.Nat.{ℕ}
 use Rattle.field.specs.Pick.{pick}
@@ -40,3 +40,12 @@ answerBy saved fresh present refused read known =
 unfoldable pub transmitsOf : Record ℕ → List ℕ → KnownList → ℕ → Transmits
 transmitsOf r fresh kn p =
     answerBy (has p (r .saved)) (has p fresh) (has p (r .present)) (has p (r .refused)) (kn .isRead) (has p (kn .pgns))
+
+-- whether the answer is that the gateway will transmit it
+abbrev pub isTransmitted : Transmits → Bool
+isTransmitted Saved = true
+isTransmitted Unsaved = false
+isTransmitted Present = true
+isTransmitted Refused = false
+isTransmitted Lacking = false
+isTransmitted Unknown = false
