@@ -18,7 +18,7 @@ fn least(a: usize, b: usize) -> usize
 }
 
 // The first n, or all where there are fewer.
-fn first(list: &[u32], n: usize) -> &[u32]
+pub fn first(list: &[u32], n: usize) -> &[u32]
     ensures { λ r. ⌜ now r ≡ take n (now (list .entry)) ⌝ }
 {
     let end = least(n, list.len());

@@ -1,7 +1,6 @@
 // Calls that make or change the session. The block's session stands beside the place after the last answer.
 use crate::lists_read::after_pgns;
 use crate::lists_read::counted256;
-use crate::lists_read::first_pgns;
 use crate::lists_read::read_pgns;
 use crate::lists_read::u64_at;
 use crate::stored::stored;
@@ -72,7 +71,7 @@ pub(crate) fn begun(call: &[u8]) -> Begun {
     let learned = learned_of(call, after_pgns(s, count));
     let mut wanted = [0u32; WANTED];
     read_pgns(&mut wanted, s, count);
-    TxListSync::begin(first_pgns(&wanted, count), learned)
+    TxListSync::begin(pgns::first(&wanted, count as usize), learned)
 }
 
 // An answer with the summary, or the number of a refusal alone.

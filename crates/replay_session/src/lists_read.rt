@@ -27,15 +27,6 @@ pub(crate) fn read_pgns(to: &mut [u32], s: &[u8], count: u16) {
     }
 }
 
-// The first PGNs, so many or as many as there are.
-pub(crate) fn first_pgns(list: &[u32], count: u16) -> &[u32] {
-    let n = count as usize;
-    if list.len() <= n {
-        return list;
-    }
-    &list[..n]
-}
-
 // What comes after so many PGNs.
 pub(crate) fn after_pgns(s: &[u8], count: u16) -> &[u8] {
     rest(s, 4 * (count as usize))

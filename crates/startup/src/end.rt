@@ -101,14 +101,6 @@ pub(crate) fn tell_wanted(pgns: &[u32], text: &mut [u8]) {
     io::write_all(STDOUT_FILENO, first(text, n));
 }
 
-// The first PGNs, so many or as many as there are.
-pub(crate) fn first_pgns(list: &[u32], count: usize) -> &[u32] {
-    if list.len() <= count {
-        return list;
-    }
-    &list[..count]
-}
-
 fn tell_held(h: Held, text: &mut [u8]) {
     let wanted = h.wanted;
     let learned = h.learned;
@@ -116,7 +108,7 @@ fn tell_held(h: Held, text: &mut [u8]) {
         learned,
         h.fresh,
         h.known,
-        first_pgns(&wanted.pgns, wanted.n),
+        pgns::first(&wanted.pgns, wanted.n),
         text,
     );
     tell_record(learned, text);

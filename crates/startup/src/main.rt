@@ -2,7 +2,6 @@
 // the session, and tells what happens, then for each wanted PGN whether the gateway will transmit it, and the record (README.md, "Play a start-up through").
 // What the calls do is proved in `scripts`, `framing`, `session` and `transmits`; here lines are read, calls are made and told.
 // Refusals of the session are told with their numbers (11, 13, 14); a bad line with its own number and what is wrong with it, and the run stops there.
-use end::first_pgns;
 use end::tell_end;
 use end::tell_wanted;
 use libc::STDERR_FILENO;
@@ -133,13 +132,13 @@ fn run(sync: TxListSync) {
 }
 
 // The session that wants these, from an empty record; told and played through, unless it is refused.
-fn start(pgns: &[u32], text: &mut [u8]) {
-    let b = TxListSync::begin(pgns, play::no_record());
+fn start(list: &[u32], text: &mut [u8]) {
+    let b = TxListSync::begin(list, play::no_record());
     if b.number != 0 {
         complain(b"refused with 11: over 64 PGNs are wanted\n");
         return;
     }
-    tell_wanted(pgns, text);
+    tell_wanted(list, text);
     let sync = b.sync;
     run(sync);
 }
@@ -151,9 +150,9 @@ fn main() {
         complain(b"usage: startup PGN.. <SCRIPT\n");
         return;
     }
-    let mut pgns = [0u32; 65];
-    if !wanted::read_wanted(&mut pgns, count - 1, &mut text) {
+    let mut list = [0u32; 65];
+    if !wanted::read_wanted(&mut list, count - 1, &mut text) {
         return;
     }
-    start(first_pgns(&pgns, count - 1), &mut text);
+    start(pgns::first(&list, count - 1), &mut text);
 }

@@ -162,11 +162,14 @@ module _ (k : Kind) where
   owes (activating fresh) = true
   owes done = true
 
+  -- "a record list passes 192", at begin, at restart and before enabling
+  abbrev pub oldBounds : Rec → List (ℕ × ℕ)
+  oldBounds r = (length (r .saved), 192) ∷ (length (r .present), 192) ∷ (length (r .refused), 192) ∷ []
+
   -- 3. "before enabling (done aside) a record list passes 192; enabling, .. fresh + owed passes 64, known + owed 1,344, or
   -- present + owed, refused + owed or saved + fresh + owed 256; committing or activating, saved + fresh passes 256"
   unfoldable pub sums : S → Phase (k .Parts) → List (ℕ × ℕ)
-  sums s (reading r) =
-      (length (s .rec .saved), 192) ∷ (length (s .rec .present), 192) ∷ (length (s .rec .refused), 192) ∷ []
+  sums s (reading r) = oldBounds (s .rec)
   sums s (enabling todo fresh) =
       (length fresh + length todo, k .wantMax)
       ∷ (length (s .known .pgns) + length todo, knownMax)
@@ -191,10 +194,6 @@ module _ (k : Kind) where
   beginBy true y w r = refuses 11
   beginBy false false w r = refuses 12
   beginBy false true w r = did (begins w r) [] []
-
-  -- "a record list over 192, at begin or restart"
-  abbrev pub oldBounds : Rec → List (ℕ × ℕ)
-  oldBounds r = (length (r .saved), 192) ∷ (length (r .present), 192) ∷ (length (r .refused), 192) ∷ []
 
   -- 11 "over 64 wanted at begin", 12 "a record list over 192"; else a new session
   unfoldable pub begin : List ℕ → Rec → R
