@@ -2,21 +2,22 @@
 use mathlib.Core.Path.{_≡_}
 use mathlib.Core.Bool.{Bool, true, false, not, _&&_}
 use mathlib.Core.List.{List}
+use mathlib.Core.Option.{Option, none, some}
 use Prim.Native.Nat.{ℕ, _+_, _≤_}
 use lib.Dec.{leb, ltb}
 use lib.Seq.{sets}
 use lib.ListN.{length}
 use Rattle.field.specs.Pick.{pick}
 use Rattle.lists.specs.declared.F2List.{F2List}
-use Rattle.lists.specs.Format2.{noParts}
+use Rattle.lists.specs.Format2.{noParts, pgnsOf}
 use Rattle.bounds.specs.declared.Counts.{Counts}
 use Rattle.bounds.specs.Bounds.{soundAt}
 use Rattle.views.specs.Told.{isFormat2}
-use Rattle.tx_list.specs.Views.{starts, isMode}
+use Rattle.tx_list.specs.Views.{starts, isMode, F2, wrong, part, neither, f2Of}
 use Rattle.tx_list.specs.Moves.{fullIn}
 use Rattle.tx_list.specs.declared.State.{State}
 use Rattle.tx_list.specs.declared.State.the-variants.{AwaitStartup, ReadAt, ReadingF2, Reading as ReadingF1, Enabling, Committing, Activating, Done}
-use Rattle.phases.specs.Sync.{kind, Sync, Begun, learnedIn, recordFits, commandsOf, Stepped, Told}
+use Rattle.phases.specs.Sync.{kind, put, Sync, Begun, learnedIn, recordFits, commandsOf, Stepped, Told}
 use Rattle.phases.specs.declared.Totals.{Totals}
 use Rattle.phases.specs.declared.Numbers.{Numbers}
 use Rattle.phases.specs.declared.Answered.{Answered}
@@ -64,7 +65,7 @@ pub record Fits (a : Arrays) : Type 0 where
   pub present-256 : length (a .present) ≡ 256
   pub refused-256 : length (a .refused) ≡ 256
 
--- the parts of Format 2: none where the numbers say so; the count of proprietary PGNs stands among the numbers (decision 65)
+-- parts of Format 2 with another count of proprietary PGNs
 abbrev pub counted : ℕ → F2List → F2List
 counted n f =
     record {
@@ -73,9 +74,9 @@ counted n f =
       proprietary = record { told = f .proprietary .told; list = record { pgns = f .proprietary .list .pgns; n = n } };
     }
 
--- the parts that the session holds: none where `blank` is set
+-- the parts that the session holds: none where `blank` is set; the count of proprietary PGNs stands among the numbers (decision 65)
 abbrev pub partsOf : Totals → F2List → F2List
-partsOf t f = pick (t .blank) noParts (counted (t .counts .proprietary) f)
+partsOf t f = counted (t .counts .proprietary) (pick (t .blank) noParts f)
 
 -- THE SESSION that the numbers and the arrays hold ("a phase enum of numbers, with arrays and counts beside it")
 abbrev pub syncOf : Numbers → Arrays → Sync
@@ -161,17 +162,9 @@ holding t f =
 abbrev pub awaiting : Totals → State → ℕ → Numbers
 awaiting t st time = record { state = st; totals = retotal t (t .counts) (time + 10000) (t .read) (t .complete) (t .blank) }
 
--- 16 ("State is not well formed when: .."), by the numbers alone: where no part is in hand no proprietary PGN is
-abbrev pub uncounted : Counts → Counts
-uncounted c = recount c (c .owed) (c .fresh) (c .list) 0 (c .known)
-
--- the counts that are tested
-abbrev pub seen : Totals → Counts
-seen t = pick (t .blank) (uncounted (t .counts)) (t .counts)
-
--- the test itself, at the session's limits
+-- 16 ("State is not well formed when: a count passes its capacity .."), by the numbers alone, at the session's limits
 unfoldable pub soundFor : Numbers → Bool
-soundFor x = soundAt helm (seen (x .totals)) (x .state)
+soundFor x = soundAt helm (x .totals .counts) (x .state)
 
 -- a step's commands, and the session that it leaves in these arrays
 abbrev pub toldStep : Step → Arrays → Stepped
@@ -255,6 +248,30 @@ readsF2 Done = false
 -- the message is for the other function: 100, and nothing changes
 abbrev pub notHere : Numbers → Arrays → List ℕ → Told
 notHere x a out = refusedWith 100 x a out
+
+-- what `part` hands back beside what the session holds: the parts themselves, and whether none of them is in hand
+pub record Hand : Type 0 where
+  pub parts : F2List
+  pub blank : Bool
+
+-- of these numbers and parts
+abbrev pub hand : Numbers → F2List → Hand
+hand x f = record { parts = f; blank = x .totals .blank }
+
+-- the parts p, with one put in, are kept for the next one, unless the list is whole with it (decision 55)
+abbrev pub handBy : Option (List ℕ) → F2List → Hand → Hand
+handBy none p h = record { parts = p; blank = false }
+handBy (some l) p h = h
+
+-- after a message that is such a part, or another one, which leaves them
+unfoldable pub handAfter : F2 → F2List → Hand → Hand
+handAfter wrong p h = h
+handAfter part p h = handBy (pgnsOf p) p h
+handAfter neither p h = h
+
+-- after a message while Format 2 is read
+abbrev pub handed : Numbers → F2List → List ℕ → Hand
+handed x f m = handAfter (f2Of m) (put m (partsOf (x .totals) f)) (hand x f)
 
 -- begin ("A new session waits for a parsed reply 11 with a mode"): the record's lists stay where they stand; every other count is 0
 abbrev pub openedWith : Counts → ℕ → Numbers

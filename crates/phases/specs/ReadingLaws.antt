@@ -33,6 +33,7 @@ use Rattle.tx_list.specs.Memory.{Buf, live, fill, Flat}
 use Rattle.tx_list.specs.Moves.{stays, goTo, withList, withOwed, withKnown, emptied, waitsFrom, addsTo, owing, knows, asks, gets, puts, inF1, inF2, inWhole, heard}
 use Rattle.tx_list.specs.declared.State.the-variants.{AwaitStartup, Enabling, Done}
 use Rattle.phases.specs.Sync.{Sync, kind, Known, put, overList, Stepped, stepOf}
+use Rattle.phases.specs.Lent.{Hand, handBy, handAfter}
 
 -- What is owed
 
@@ -297,6 +298,23 @@ pub in-f2 :
     → stepOf (inF2 kind (toldF2 v) h t m) ≡ stepOf (inF2 kind (f2Of m) h t m)
 in-f2 m v h t e q = ap (λ (x : F2). stepOf (inF2 kind x h t m)) (ap toldF2 (sym q) ∙ e)
 
+-- what stays in hand, by what the message is
+pub hand-f2 :
+    (m : List ℕ) {k : F2Kind} (v : F2Kind) (p : F2List) (h : Hand)
+    → toldF2 k ≡ f2Of m
+    → k ≡ v
+    → handAfter (toldF2 v) p h ≡ handAfter (f2Of m) p h
+hand-f2 m v p h e q = ap (λ (x : F2). handAfter x p h) (ap toldF2 (sym q) ∙ e)
+
+-- a list that was read leaves the parts
+asks-parts : (h : Flat F2List ℕ) (o : List ℕ) (t : ℕ) → asks kind h o t .flat .f2 ≡ h .f2
+unfolding asks
+asks-parts h [] t = refl
+asks-parts h (p ∷ ps) t = refl
+
+pub gets-parts : (h : Flat F2List ℕ) (l : List ℕ) (b : Bool) (t : ℕ) → stepOf (gets kind h l b t) .sync .f2 ≡ h .f2
+gets-parts h l b t = asks-parts (knows kind h l b) (owing kind h l) t
+
 -- a part goes by the reply byte
 pub put-as :
     (m : List ℕ) (p : F2List) {b : Bool} (v : Bool)
@@ -340,6 +358,13 @@ module _ (s : Sync) (p : F2List) (t : ℕ) (a : List ℕ) {f : F2Read} (e : told
   part-partial q =
       let w = told-partial (pgnsOf p) a (s .known .items) (heard-as Partial q) in
       (w .1, ap (λ (o : Option (List ℕ)). stepOf (inWhole kind o s p t)) (sym (w .0)))
+
+  -- what stays in hand: what there was once the list is whole, else the parts with the new one
+  pub whole-hand : (n : ℕ) → f ≡ Whole n → (h : Hand) → h ≡ handBy (pgnsOf p) p h
+  whole-hand n q h = ap (λ (o : Option (List ℕ)). handBy o p h) (sym (told-whole (pgnsOf p) n a (s .known .items) (heard-as (Whole n) q) .1))
+
+  pub partial-hand : f ≡ Partial → (h : Hand) → record { parts = p; blank = false } ≡ handBy (pgnsOf p) p h
+  partial-hand q h = ap (λ (o : Option (List ℕ)). handBy o p h) (sym (told-partial (pgnsOf p) a (s .known .items) (heard-as Partial q) .0))
 
   pub part-refused : (number : ℕ) → f ≡ Refused number → ⊥
   part-refused number q = told-refused (pgnsOf p) number a (s .known .items) (heard-as (Refused number) q)

@@ -19,11 +19,12 @@ use lists::F2List;
 ghost use mathlib.Core.Path.{_≡_};
 ghost use mathlib.Core.List.{List};
 ghost use Prim.Native.Nat.{ℕ};
+ghost use lib.Dec.{eqb};
 ghost use lib.ListN.{length};
 ghost use Rattle.field.specs.Pick.{pick};
 ghost use Rattle.tx_list.specs.Reading as model;
 ghost use Rattle.phases.specs.Sync.{called, setTo, restarted, abandoned, doneOf, lackOf, toldLacks};
-ghost use Rattle.phases.specs.Lent.{Arrays, Fits, lent, syncOf, refusedWith, Admitted, toldAnswer, toldParted, toldRenewed, readsF2, notHere, idleAt, ignoredAt, begunIn};
+ghost use Rattle.phases.specs.Lent.{Arrays, Fits, lent, syncOf, refusedWith, Admitted, toldAnswer, toldParted, toldRenewed, readsF2, notHere, idleAt, ignoredAt, begunIn, hand, handed};
 
 // Why a message is refused: 16, 13, 6, 7, 14; 0 where it is taken.
 fn barred(x: Numbers, time: u64, payload: &[u8], room: usize) -> u8
@@ -53,6 +54,7 @@ impl Numbers {
     // numbers give; nothing else of the numbers counts. Refuses with 11, 12.
     pub fn begin(self, want: &[u32], wanted: &mut [u32; 64]) -> Renewed
         ensures { λ r. ⌜ ((o u l k s p q : List ℕ) (f : F2List) → toldRenewed r (lent (now (wanted .exit)) o u l k s p q f) ≡ begunIn self (now (want .entry)) (lent (now (wanted .entry)) o u l k s p q f)) ⌝ }
+        ensures { λ r. ⌜ ((r .number ≡ 0 → ⊥) → r .numbers ≡ self) ⌝ }
     {
         if 64 < want.len() {
             return Renewed {
@@ -88,6 +90,7 @@ impl Numbers {
         out: &mut [u8],
     ) -> Answered
         ensures { λ r. ⌜ ((f : F2List) → Fits (lent (now (wanted .entry)) (now (owed .entry)) (now (fresh .entry)) (now (list .entry)) (now (known .entry)) (now (saved .entry)) (now (present .entry)) (now (refused .entry)) f) → toldAnswer r (lent (now (wanted .exit)) (now (owed .exit)) (now (fresh .exit)) (now (list .exit)) (now (known .exit)) (now (saved .exit)) (now (present .exit)) (now (refused .exit)) f) (now (out .exit)) ≡ pick (readsF2 (self .state)) (notHere self (lent (now (wanted .entry)) (now (owed .entry)) (now (fresh .entry)) (now (list .entry)) (now (known .entry)) (now (saved .entry)) (now (present .entry)) (now (refused .entry)) f) (now (out .entry))) (called (syncOf self (lent (now (wanted .entry)) (now (owed .entry)) (now (fresh .entry)) (now (list .entry)) (now (known .entry)) (now (saved .entry)) (now (present .entry)) (now (refused .entry)) f)) (model.message time (now (payload .entry)) (length (now (out .entry)))) (now (out .entry)))) ⌝ }
+        ensures { λ r. ⌜ ((r .number ≡ 0 → ⊥) → r .numbers ≡ self) ⌝ }
     {
         let st = self.state;
         if parts::reads_f2(st) {
@@ -127,6 +130,8 @@ impl Numbers {
         out: &mut [u8],
     ) -> Parted
         ensures { λ r. ⌜ ((fresh list saved : List ℕ) → Fits (lent (now (wanted .entry)) (now (owed .entry)) fresh list (now (known .entry)) saved (now (present .entry)) (now (refused .entry)) f2) → toldParted r (lent (now (wanted .exit)) (now (owed .exit)) fresh list (now (known .exit)) saved (now (present .exit)) (now (refused .exit))) (now (out .exit)) ≡ pick (readsF2 (self .state)) (called (syncOf self (lent (now (wanted .entry)) (now (owed .entry)) fresh list (now (known .entry)) saved (now (present .entry)) (now (refused .entry)) f2)) (model.message time (now (payload .entry)) (length (now (out .entry)))) (now (out .entry))) (notHere self (lent (now (wanted .entry)) (now (owed .entry)) fresh list (now (known .entry)) saved (now (present .entry)) (now (refused .entry)) f2) (now (out .entry)))) ⌝ }
+        ensures { λ r. ⌜ hand (r .numbers) (r .f2) ≡ pick (eqb (r .number) 0) (handed self f2 (now (payload .entry))) (hand self f2) ⌝ }
+        ensures { λ r. ⌜ ((r .number ≡ 0 → ⊥) → r .numbers ≡ self) ⌝ }
     {
         let st = self.state;
         if !parts::reads_f2(st) {
@@ -153,6 +158,7 @@ impl Numbers {
     // The passing of time. Refuses with 16, 13, 7.
     pub fn tick(self, time: u64, out: &mut [u8]) -> Answered
         ensures { λ r. ⌜ ((a : Arrays) → Fits a → toldAnswer r a (now (out .exit)) ≡ called (syncOf self a) (model.tick time (length (now (out .entry)))) (now (out .entry))) ⌝ }
+        ensures { λ r. ⌜ ((r .number ≡ 0 → ⊥) → r .numbers ≡ self) ⌝ }
     {
         if !sound::is_sound(self) {
             return write::refused(16, self);
@@ -205,6 +211,7 @@ impl Numbers {
     // The session from its start: wanted and record are kept. Refuses with 16, 12.
     pub fn restart(self) -> Renewed
         ensures { λ r. ⌜ ((a : Arrays) → Fits a → toldRenewed r a ≡ restarted (syncOf self a)) ⌝ }
+        ensures { λ r. ⌜ ((r .number ≡ 0 → ⊥) → r .numbers ≡ self) ⌝ }
     {
         if !sound::is_sound(self) {
             return Renewed {
@@ -225,6 +232,7 @@ impl Numbers {
     // The gateway's firmware version times 1000, from its product information. Refuses with 16.
     pub fn set_firmware(self, version: u16) -> Renewed
         ensures { λ r. ⌜ ((a : Arrays) → Fits a → toldRenewed r a ≡ setTo (syncOf self a) version) ⌝ }
+        ensures { λ r. ⌜ ((r .number ≡ 0 → ⊥) → r .numbers ≡ self) ⌝ }
     {
         if !sound::is_sound(self) {
             return Renewed {
@@ -239,6 +247,7 @@ impl Numbers {
     // The gateway has no list to set: the session is done and no list is known. Refuses with 16.
     pub fn abandon(self) -> Renewed
         ensures { λ r. ⌜ ((a : Arrays) → Fits a → toldRenewed r a ≡ abandoned (syncOf self a)) ⌝ }
+        ensures { λ r. ⌜ ((r .number ≡ 0 → ⊥) → r .numbers ≡ self) ⌝ }
     {
         if !sound::is_sound(self) {
             return Renewed {

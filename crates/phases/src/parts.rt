@@ -15,7 +15,7 @@ use replies::BEM_SUPPORTED_PGN_LIST;
 use tx_list::State;
 use views::F2Kind;
 ghost use mathlib.Core.Path.{_≡_};
-ghost use mathlib.Core.Bool.{true};
+ghost use mathlib.Core.Bool.{true, false};
 ghost use mathlib.Core.List.{List};
 ghost use Prim.Native.Nat.{ℕ, _≤_};
 ghost use lib.ListN.{length};
@@ -23,14 +23,16 @@ ghost use Rattle.lists.specs.Format2.{formed, pgnsOf};
 ghost use Rattle.tx_list.specs.Views.{f2Of};
 ghost use Rattle.tx_list.specs.Moves.{puts, inF2, inWhole};
 ghost use Rattle.phases.specs.Sync.{kind, put, stepOf, wroteStep};
-ghost use Rattle.phases.specs.Lent.{Arrays, lent, partsOf, holding, syncOf, toldPart, toldParted, readsF2};
+ghost use Rattle.phases.specs.Lent.{Arrays, lent, partsOf, holding, syncOf, toldPart, toldParted, readsF2, hand, handBy, handed};
 
 // The parts in hand; none where the numbers say so.
 pub fn in_hand(t: Totals, f2: F2List) -> F2List
     ensures { λ r. ⌜ r ≡ partsOf t f2 ⌝ }
 {
     if t.blank {
-        return F2List::new();
+        let mut none = F2List::new();
+        none.proprietary.list.n = t.counts.proprietary;
+        return none;
     }
     let mut f = f2;
     f.proprietary.list.n = t.counts.proprietary;
@@ -71,6 +73,7 @@ fn with_parts(step: Step, f2: F2List) -> PartStep
 fn store_part(x: Numbers, p: F2List, time: u64) -> PartStep
     requires { ⌜ time ≤ 18446744073709541615 ⌝ }
     ensures { λ r. ⌜ ((w o u l k s q v : List ℕ) (f : F2List) → toldPart r (lent w o u l k s q v) ≡ stepOf (puts kind (syncOf x (lent w o u l k s q v f)) p time)) ⌝ }
+    ensures { λ r. ⌜ hand (r .numbers) (r .f2) ≡ record { parts = p; blank = false } ⌝ }
 {
     let t = hold(x.totals, p);
     let st = x.state;
@@ -95,6 +98,7 @@ fn on_part(
 ) -> PartStep
     requires { ⌜ (time ≤ 18446744073709541615) × (x .totals .counts .wanted ≤ 64) × (x .totals .counts .present ≤ 256) × (formed (partsOf (x .totals) f2) ≡ true) ⌝ }
     ensures { λ r. ⌜ ((u l s : List ℕ) → toldPart r (lent (now (wanted .exit)) (now (owed .exit)) u l (now (known .exit)) s (now (present .exit)) (now (refused .exit))) ≡ stepOf (inWhole kind (pgnsOf (put (now (payload .entry)) (partsOf (x .totals) f2))) (syncOf x (lent (now (wanted .entry)) (now (owed .entry)) u l (now (known .entry)) s (now (present .entry)) (now (refused .entry)) f2)) (put (now (payload .entry)) (partsOf (x .totals) f2)) time)) ⌝ }
+    ensures { λ r. ⌜ hand (r .numbers) (r .f2) ≡ handBy (pgnsOf (put (now (payload .entry)) (partsOf (x .totals) f2))) (put (now (payload .entry)) (partsOf (x .totals) f2)) (hand x f2) ⌝ }
 {
     let p = put_part(in_hand(x.totals, f2), payload);
     let read = p.pgns(known);
@@ -125,6 +129,7 @@ pub(crate) fn on_f2(
 ) -> PartStep
     requires { ⌜ (time ≤ 18446744073709541615) × (x .totals .counts .wanted ≤ 64) × (x .totals .counts .present ≤ 256) × (formed (partsOf (x .totals) f2) ≡ true) ⌝ }
     ensures { λ r. ⌜ ((u l s : List ℕ) → toldPart r (lent (now (wanted .exit)) (now (owed .exit)) u l (now (known .exit)) s (now (present .exit)) (now (refused .exit))) ≡ stepOf (inF2 kind (f2Of (now (payload .entry))) (syncOf x (lent (now (wanted .entry)) (now (owed .entry)) u l (now (known .entry)) s (now (present .entry)) (now (refused .entry)) f2)) time (now (payload .entry)))) ⌝ }
+    ensures { λ r. ⌜ hand (r .numbers) (r .f2) ≡ handed x f2 (now (payload .entry)) ⌝ }
 {
     let kind = views::f2_kind(payload);
     match kind {
@@ -141,6 +146,7 @@ pub(crate) fn on_f2(
 pub(crate) fn told_part(step: PartStep, out: &mut [u8]) -> Parted
     requires { ⌜ 32 ≤ length (now out) ⌝ }
     ensures { λ r. ⌜ ((a : F2List → Arrays) → toldParted r a (now (out .exit)) ≡ wroteStep (toldPart step a) (now (out .entry))) ⌝ }
+    ensures { λ r. ⌜ (r .number ≡ 0) × (hand (r .numbers) (r .f2) ≡ hand (step .numbers) (step .f2)) ⌝ }
 {
     let sent = step.sent;
     let numbers = step.numbers;

@@ -1,12 +1,10 @@
 // Whether a session is well formed (16), and its record within the bound of begin and restart (12).
 use super::Numbers;
-use super::Totals;
-use bounds::Counts;
 use bounds::Limits;
 ghost use mathlib.Core.Path.{_≡_};
 ghost use Rattle.phases.specs.Sync.{learnedIn, recordFits};
 ghost use Rattle.phases.specs.Sound.{helm};
-ghost use Rattle.phases.specs.Lent.{Arrays, syncOf, seen, soundFor};
+ghost use Rattle.phases.specs.Lent.{Arrays, syncOf, soundFor};
 
 pub(crate) fn helm_limits() -> Limits
     ensures { λ r. ⌜ r ≡ helm ⌝ }
@@ -19,23 +17,12 @@ pub(crate) fn helm_limits() -> Limits
     }
 }
 
-// The counts; where no part of Format 2 is in hand no proprietary PGN is.
-fn seen(t: Totals) -> Counts
-    ensures { λ r. ⌜ r ≡ seen t ⌝ }
-{
-    let mut c = t.counts;
-    if t.blank {
-        c.proprietary = 0;
-    }
-    c
-}
-
 // Whether the session is well formed.
 pub(crate) fn is_sound(x: Numbers) -> bool
     ensures { λ r. ⌜ r ≡ soundFor x ⌝ }
 {
     let st = x.state;
-    bounds::sound_at(helm_limits(), seen(x.totals), st)
+    bounds::sound_at(helm_limits(), x.totals.counts, st)
 }
 
 // Whether no list of the record passes 192 (12).

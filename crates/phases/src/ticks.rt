@@ -37,6 +37,7 @@ pub(crate) fn start_f2(x: Numbers, attempt: u32, time: u64) -> Step
 {
     let mut t = x.totals;
     t.blank = true;
+    t.counts.proprietary = 0;
     t.deadline = time + ANSWER_TIMEOUT_MS;
     Step {
         sent: Sent::ReadF2,

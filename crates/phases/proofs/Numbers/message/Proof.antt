@@ -5,9 +5,9 @@ use borrow.Author.Needs.{needs}
 use lib.ListN.{length}
 use Rattle.lists.specs.declared.F2List.{F2List}
 use Rattle.phases.specs.declared.Answered.{Answered}
-use Rattle.phases.specs.Sync.{Stepped, wroteStep}
+use Rattle.phases.specs.Sync.{Told, Stepped, wroteStep}
 use Rattle.phases.specs.Lent.{Arrays, lent, toldAnswer, readsF2, Admitted}
-use Rattle.phases.specs.LentLaws.{chosen, other}
+use Rattle.phases.specs.LentLaws.{chosen, other, nowhere}
 use Rattle.phases.proofs.LentCalls.{admitted}
 use Rattle.phases.proofs.Numbers.message.Statement.{statement}
 use Rattle.phases.proofs.Numbers.message.Tie as tie
@@ -44,9 +44,11 @@ returns : tie.Need-returns
 returns c =
     let k = c .before .before in
     let b = k .before .before .before in
-    let o = b .args .out .now in
-    λ f z.
-    ap (λ (r : Answered). toldAnswer r (arrays b f) o) (c .refused .ensures) ∙ chosen _ _ (sym (k .reads-f2 .ensures) ∙ c .before .if1 .taken)
+    let o = b .args .out .now in (
+      λ f z.
+          ap (λ (r : Answered). toldAnswer r (arrays b f) o) (c .refused .ensures) ∙ chosen _ _ (sym (k .reads-f2 .ensures) ∙ c .before .if1 .taken),
+      λ h. ap (λ (r : Answered). r .numbers) (c .refused .ensures),
+    )
 
 barred-requires : tie.Need-barred-requires
 barred-requires c κs = search needs
@@ -59,11 +61,13 @@ returns-2 c =
     let g = c .before .before in
     let l = g .before in
     let b = l .before .before .before .before in
-    let o = b .args .out .now in
-    λ f z.
-    ap (λ (r : Answered). toldAnswer r (arrays b f) o) (c .refused2 .ensures)
-    ∙ g .barred .ensures .0 (c .before .if2 .taken) (arrays b f) o z
-    ∙ other _ _ (elsewhere l)
+    let o = b .args .out .now in (
+      λ f z.
+          ap (λ (r : Answered). toldAnswer r (arrays b f) o) (c .refused2 .ensures)
+          ∙ g .barred .ensures .0 (c .before .if2 .taken) (arrays b f) o z
+          ∙ other _ _ (elsewhere l),
+      λ h. ap (λ (r : Answered). r .numbers) (c .refused2 .ensures),
+    )
 
 heard-requires : tie.Need-heard-requires
 heard-requires c κs =
@@ -80,17 +84,19 @@ same-length c = search needs
 returns-3 : tie.Need-returns-3
 returns-3 c =
     let t = c .before .before in
-    let h = t .before .before in
-    let s = h .before .before .before .before .before .before .before .before .before in
+    let d = t .before .before in
+    let s = d .before .before .before .before .before .before .before .before .before in
     let l = s .before .before in
     let b = l .before .before .before .before in
     let a = b .args in
-    let o = a .out .now in
-    λ f z.
-    t .told .ensures (after h f)
-    ∙ ap (λ (x : Stepped). wroteStep x o) (h .heard .ensures f)
-    ∙ admitted (a .self) (a .time) (a .payload .now) (length o) o (arrays b f) z (taken s)
-    ∙ other _ _ (elsewhere l)
+    let o = a .out .now in (
+      λ f z.
+          t .told .ensures (after d f)
+          ∙ ap (λ (x : Stepped). wroteStep x o) (d .heard .ensures f)
+          ∙ admitted (a .self) (a .time) (a .payload .now) (length o) o (arrays b f) z (taken s)
+          ∙ other _ _ (elsewhere l),
+      λ h. absurd (h (ap (λ (r : Told). r .number) (t .told .ensures nowhere))),
+    )
 
 pub message-spec : {M : Type 1} → statement M
 message-spec =

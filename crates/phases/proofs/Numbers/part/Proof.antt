@@ -10,8 +10,8 @@ use lib.ListN.{length}
 use Rattle.lists.specs.declared.F2List.{F2List}
 use Rattle.phases.specs.declared.Parted.{Parted}
 use Rattle.phases.specs.Sync.{Stepped, stepOf, wroteStep}
-use Rattle.phases.specs.Lent.{Arrays, lent, syncOf, toldParted, readsF2, Admitted}
-use Rattle.phases.specs.LentLaws.{sound-flat, chosen, other}
+use Rattle.phases.specs.Lent.{Arrays, lent, syncOf, toldParted, readsF2, Admitted, hand, handed}
+use Rattle.phases.specs.LentLaws.{sound-flat, chosen, other, hand-kept, hand-given}
 use Rattle.phases.proofs.HeardLaws.{within, parts-formed, hears-part}
 use Rattle.phases.proofs.LentCalls.{admitted}
 use Rattle.phases.proofs.Numbers.part.Statement.{statement}
@@ -47,9 +47,14 @@ returns : tie.Need-returns
 returns c =
     let k = c .before .before in
     let b = k .before .before .before in
-    let o = b .args .out .now in
-    λ u l s z.
-    ap (λ (r : Parted). toldParted r (arrays b u l s) o) (c .refused-part .ensures) ∙ other _ _ (sym (k .reads-f2 .ensures) ∙ not-true _ (c .before .if1 .taken))
+    let o = b .args .out .now in (
+      λ u l s z.
+          ap (λ (r : Parted). toldParted r (arrays b u l s) o) (c .refused-part .ensures) ∙ other _ _ (sym (k .reads-f2 .ensures) ∙ not-true _ (c .before .if1 .taken)),
+      (
+        hand-kept 100 (b .args .self) (b .args .f2) (handed (b .args .self) (b .args .f2) (b .args .payload .now)) (λ e. omega (arith, e)) (c .refused-part .ensures),
+        λ h. ap (λ (r : Parted). r .numbers) (c .refused-part .ensures),
+      ),
+    )
 
 barred-requires : tie.Need-barred-requires
 barred-requires c κs = search needs
@@ -62,11 +67,16 @@ returns-2 c =
     let g = c .before .before in
     let e = g .before in
     let b = e .before .before .before .before in
-    let o = b .args .out .now in
-    λ u l s z.
-    ap (λ (r : Parted). toldParted r (arrays b u l s) o) (c .refused-part2 .ensures)
-    ∙ g .barred .ensures .0 (c .before .if2 .taken) (arrays b u l s (b .args .f2)) o z
-    ∙ chosen _ _ (here e)
+    let o = b .args .out .now in (
+      λ u l s z.
+          ap (λ (r : Parted). toldParted r (arrays b u l s) o) (c .refused-part2 .ensures)
+          ∙ g .barred .ensures .0 (c .before .if2 .taken) (arrays b u l s (b .args .f2)) o z
+          ∙ chosen _ _ (here e),
+      (
+        hand-kept (g .barred .result) (b .args .self) (b .args .f2) (handed (b .args .self) (b .args .f2) (b .args .payload .now)) (c .before .if2 .taken) (c .refused-part2 .ensures),
+        λ h. ap (λ (r : Parted). r .numbers) (c .refused-part2 .ensures),
+      ),
+    )
 
 on-f2-requires : tie.Need-on-f2-requires
 on-f2-requires c κs =
@@ -92,13 +102,20 @@ returns-3 c =
     let e = s .before .before in
     let b = e .before .before .before .before in
     let a = b .args in
-    let o = a .out .now in
-    λ u l k z.
-    let A = arrays b u l k (a .f2) in
-    t .told-part .ensures (after h u l k)
-    ∙ ap (λ (x : Stepped). wroteStep x o) (h .on-f2 .ensures u l k ∙ ap stepOf (hears-part (a .self .state) (syncOf (a .self) A) (a .time) (a .payload .now) (here e)))
-    ∙ admitted (a .self) (a .time) (a .payload .now) (length o) o A z (taken s)
-    ∙ chosen _ _ (here e)
+    let o = a .out .now in (
+      λ u l k z.
+          let A = arrays b u l k (a .f2) in
+          t .told-part .ensures .0 (after h u l k)
+          ∙ ap (λ (x : Stepped). wroteStep x o) (h .on-f2 .ensures .0 u l k ∙ ap stepOf (hears-part (a .self .state) (syncOf (a .self) A) (a .time) (a .payload .now) (here e)))
+          ∙ admitted (a .self) (a .time) (a .payload .now) (length o) o A z (taken s)
+          ∙ chosen _ _ (here e),
+      (
+        t .told-part .ensures .1 .1
+            ∙ h .on-f2 .ensures .1
+            ∙ hand-given (handed (a .self) (a .f2) (a .payload .now)) (hand (a .self) (a .f2)) (t .told-part .ensures .1 .0),
+        λ n. absurd (n (t .told-part .ensures .1 .0)),
+      ),
+    )
 
 pub part-spec : {M : Type 1} → statement M
 part-spec =

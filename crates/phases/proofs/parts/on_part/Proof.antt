@@ -2,17 +2,18 @@
 use Prim.Native.Nat.{ℕ}
 use native.Mathlib.Omega.{arith}
 use mathlib.Core.Path.{_≡_, ap, _∙_}
-use mathlib.Core.Bool.{true}
+use mathlib.Core.Bool.{Bool, true, false}
 use mathlib.Core.List.{List, []}
 use borrow.Author.Needs.{needs}
 use lib.ListN.{length}
 use Rattle.lists.specs.declared.F2List.{F2List}
 use Rattle.lists.specs.Format2.{formed, toldRead, listed}
 use Rattle.tx_list.specs.Moves.{puts}
-use Rattle.phases.specs.Sync.{Sync, kind, put, stepOf}
+use Rattle.phases.specs.Sync.{Sync, kind, put, Stepped, stepOf}
 use Rattle.phases.specs.declared.PartStep.{PartStep}
-use Rattle.phases.specs.Lent.{lent, partsOf, syncOf, toldPart}
-use Rattle.phases.specs.ReadingLaws.{put-formed, part-whole, part-partial, part-refused}
+use Rattle.phases.specs.Lent.{lent, partsOf, syncOf, toldPart, Hand, hand}
+use Rattle.phases.specs.LentLaws.{blank-told}
+use Rattle.phases.specs.ReadingLaws.{put-formed, part-whole, part-partial, part-refused, gets-parts, whole-hand, partial-hand}
 use Rattle.phases.proofs.parts.on_part.Statement.{statement}
 use Rattle.phases.proofs.parts.on_part.Tie as tie
 
@@ -29,6 +30,10 @@ put-okay c = put-formed (c .args .payload .now) (partsOf (c .args .x .totals) (c
 -- the session, whatever stands in the arrays that this does not touch
 abbrev held : tie.Start → List ℕ → List ℕ → List ℕ → Sync
 held c u l s = syncOf (c .args .x) (lent (c .args .wanted .now) (c .args .owed .now) u l (c .args .known .now) s (c .args .present .now) (c .args .refused .now) (c .args .f2))
+
+-- the same with other parts
+abbrev with-held : tie.Start → F2List → Sync
+with-held c f = syncOf (c .args .x) (lent (c .args .wanted .now) (c .args .owed .now) [] [] (c .args .known .now) [] (c .args .present .now) (c .args .refused .now) f)
 
 abbrev start : tie.After-pgns → tie.Start
 start c = c .before .before .before .before .before
@@ -77,23 +82,32 @@ returns c =
     let r = t .before .before .before .before .before .before .before in
     let q = r .before .before in
     let b = start q in
-    λ u l s.
-    let w = part-whole (held b u l s) (now-put b) (b .args .time) (q .pgns .last .1 .0) (reads-as q) (known-is (q .before)) (put-okay b) (r .read .given .0 .0) (r .read .given .1) in
-    ap (λ (p : PartStep). toldPart p (lent (t .got .last .1 .1 .0) (t .got .last .1 .1 .1 .0) u l (t .got .last .1 .1 .1 .1 .0) s (t .got .last .1 .1 .1 .1 .1 .0) (t .got .last .1 .1 .1 .1 .1 .1 .0))) (c .with-parts .ensures)
-    ∙ t .got .ensures u l (b .args .known .now) s (b .args .f2) (known-is (q .before)) (w .0)
-    ∙ w .2
+    let there = part-whole (held b [] [] []) (now-put b) (b .args .time) (q .pgns .last .1 .0) (reads-as q) (known-is (q .before)) (put-okay b) (r .read .given .0 .0) (r .read .given .1) .0 in (
+      λ u l s.
+          ap (λ (p : PartStep). toldPart p (lent (t .got .last .1 .1 .0) (t .got .last .1 .1 .1 .0) u l (t .got .last .1 .1 .1 .1 .0) s (t .got .last .1 .1 .1 .1 .1 .0) (t .got .last .1 .1 .1 .1 .1 .1 .0))) (c .with-parts .ensures)
+          ∙ t .got .ensures u l (b .args .known .now) s (b .args .f2) (known-is (q .before)) there
+          ∙ part-whole (held b u l s) (now-put b) (b .args .time) (q .pgns .last .1 .0) (reads-as q) (known-is (q .before)) (put-okay b) (r .read .given .0 .0) (r .read .given .1) .2,
+      ap (λ (p : PartStep). hand (p .numbers) (p .f2)) (c .with-parts .ensures)
+          ∙ ap {B = Hand} (λ (y : Bool). record { parts = b .args .f2; blank = y })
+          (blank-told (t .got .result .numbers .totals) (b .args .x .totals) (λ f. ap (λ (x : Stepped). x .sync .f2) (t .got .ensures [] [] (b .args .known .now) [] f (known-is (q .before)) there) ∙ gets-parts (with-held b f) _ true (b .args .time)))
+          ∙ whole-hand (held b [] [] []) (now-put b) (b .args .time) (q .pgns .last .1 .0) (reads-as q) (known-is (q .before)) (put-okay b) (r .read .given .0 .0) (r .read .given .1) (hand (b .args .x) (b .args .f2)),
+    )
 
 returns-2 : tie.Need-returns-2
 returns-2 c =
     let e = c .before in
     let q = e .before .before in
     let b = start q in
-    λ u l s.
-    let w = part-partial (held b u l s) (now-put b) (b .args .time) (q .pgns .last .1 .0) (reads-as q) (known-is (q .before)) (put-okay b) (e .enum-told .given .1) in
-    c .store-part .ensures (b .args .wanted .now) (b .args .owed .now) u l (q .pgns .last .1 .0) s (b .args .present .now) (b .args .refused .now) (b .args .f2)
-    ∙ (λ i. stepOf (puts kind (syncOf (b .args .x) (lent (b .args .wanted .now) (b .args .owed .now) u l (w .0 i) s (b .args .present .now) (b .args .refused .now) (b .args .f2)))
-    ((q .before .before .put-part .ensures ∙ ap (put (b .args .payload .now)) (q .before .before .before .in-hand .ensures)) i) (b .args .time)))
-    ∙ w .1
+    let p = q .before .before .put-part .ensures ∙ ap (put (b .args .payload .now)) (q .before .before .before .in-hand .ensures) in (
+      λ u l s.
+          let w = part-partial (held b u l s) (now-put b) (b .args .time) (q .pgns .last .1 .0) (reads-as q) (known-is (q .before)) (put-okay b) (e .enum-told .given .1) in
+          c .store-part .ensures .0 (b .args .wanted .now) (b .args .owed .now) u l (q .pgns .last .1 .0) s (b .args .present .now) (b .args .refused .now) (b .args .f2)
+          ∙ (λ i. stepOf (puts kind (syncOf (b .args .x) (lent (b .args .wanted .now) (b .args .owed .now) u l (w .0 i) s (b .args .present .now) (b .args .refused .now) (b .args .f2))) (p i) (b .args .time)))
+          ∙ w .1,
+      c .store-part .ensures .1
+          ∙ ap {B = Hand} (λ (f : F2List). record { parts = f; blank = false }) p
+          ∙ partial-hand (held b [] [] []) (now-put b) (b .args .time) (q .pgns .last .1 .0) (reads-as q) (known-is (q .before)) (put-okay b) (e .enum-told .given .1) (hand (b .args .x) (b .args .f2)),
+    )
 
 returns-3 : tie.Need-returns-3
 returns-3 c =

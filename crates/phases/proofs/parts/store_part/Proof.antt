@@ -5,7 +5,7 @@ use borrow.Author.Needs.{needs}
 use Rattle.phases.specs.declared.Totals.{Totals}
 use Rattle.phases.specs.declared.Numbers.{Numbers}
 use Rattle.phases.specs.Sync.{Stepped}
-use Rattle.phases.specs.Lent.{lent, syncOf, awaiting}
+use Rattle.phases.specs.Lent.{lent, syncOf, awaiting, hand}
 use Rattle.phases.proofs.parts.store_part.Statement.{statement}
 use Rattle.phases.proofs.parts.store_part.Tie as tie
 
@@ -18,9 +18,10 @@ await-answer-requires c κs = search needs
 returns : tie.Need-returns
 returns c =
     let a = c .before .before .args in
-    λ w o u l k s q v f.
-    ap {B = Stepped} (λ (y : Numbers). record { sent = []; sync = syncOf y (lent w o u l k s q v (a .p)) })
-    (c .await-answer .ensures ∙ ap (λ (t : Totals). awaiting t (a .x .state) (a .time)) (c .before .hold .ensures))
+    let e = c .await-answer .ensures ∙ ap (λ (t : Totals). awaiting t (a .x .state) (a .time)) (c .before .hold .ensures) in (
+      λ w o u l k s q v f. ap {B = Stepped} (λ (y : Numbers). record { sent = []; sync = syncOf y (lent w o u l k s q v (a .p)) }) e,
+      ap (λ (y : Numbers). hand y (a .p)) e,
+    )
 
 pub store-part-spec : {M : Type 1} → statement M
 store-part-spec = tie.close (tie.spec hold-requires await-answer-requires returns)

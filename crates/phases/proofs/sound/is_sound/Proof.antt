@@ -1,8 +1,7 @@
 -- `phases::sound::is_sound` meets its contract. Assumes nothing.
-use mathlib.Core.Path.{ap₂, _∙_}
+use mathlib.Core.Path.{ap, _∙_}
 use borrow.Author.Needs.{needs}
 use Rattle.bounds.specs.declared.Limits.{Limits}
-use Rattle.bounds.specs.declared.Counts.{Counts}
 use Rattle.bounds.specs.Bounds.{soundAt}
 use Rattle.phases.specs.Lent.{soundFor}
 use Rattle.phases.proofs.sound.is_sound.Statement.{statement}
@@ -11,18 +10,14 @@ use Rattle.phases.proofs.sound.is_sound.Tie as tie
 helm-limits-requires : tie.Need-helm-limits-requires
 helm-limits-requires c κs = search needs
 
-seen-requires : tie.Need-seen-requires
-seen-requires c κs = search needs
-
 sound-at-requires : tie.Need-sound-at-requires
 sound-at-requires c κs = search needs
 
 returns : tie.Need-returns
 unfolding soundFor
 returns c =
-    let s = c .before .before .before in
-    c .sound-at .ensures
-    ∙ ap₂ (λ (l : Limits) (n : Counts). soundAt l n (s .args .x .state)) (c .before .before .helm-limits .ensures) (c .before .seen .ensures)
+    let s = c .before .before in
+    c .sound-at .ensures ∙ ap (λ (l : Limits). soundAt l (s .args .x .totals .counts) (s .args .x .state)) (c .before .helm-limits .ensures)
 
 pub is-sound-spec : {M : Type 1} → statement M
-is-sound-spec = tie.close (tie.spec helm-limits-requires seen-requires sound-at-requires returns)
+is-sound-spec = tie.close (tie.spec helm-limits-requires sound-at-requires returns)

@@ -22,7 +22,7 @@ returns c =
     let n = c .before .before in
     let s = ofSync (n .before .args .self) in
     c .renewed .ensures
-    ∙ c .before .abandon .ensures (arraysOf s) (n .numbers-of .ensures .1)
+    ∙ c .before .abandon .ensures .0 (arraysOf s) (n .numbers-of .ensures .1)
     ∙ ap (λ (x : Numbers). abandoned (syncOf x (arraysOf s))) (n .numbers-of .ensures .0)
 
 pub abandon-spec : {M : Type 1} → statement M

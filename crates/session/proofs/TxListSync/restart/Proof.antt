@@ -22,7 +22,7 @@ returns c =
     let n = c .before .before in
     let s = ofSync (n .before .args .self) in
     c .renewed .ensures
-    ∙ c .before .restart .ensures (arraysOf s) (n .numbers-of .ensures .1)
+    ∙ c .before .restart .ensures .0 (arraysOf s) (n .numbers-of .ensures .1)
     ∙ ap (λ (x : Numbers). restarted (syncOf x (arraysOf s))) (n .numbers-of .ensures .0)
 
 pub restart-spec : {M : Type 1} → statement M

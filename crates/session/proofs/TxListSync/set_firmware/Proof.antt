@@ -22,7 +22,7 @@ returns c =
     let n = c .before .before in
     let s = ofSync (n .before .args .self) in
     c .renewed .ensures
-    ∙ c .before .set-firmware .ensures (arraysOf s) (n .numbers-of .ensures .1)
+    ∙ c .before .set-firmware .ensures .0 (arraysOf s) (n .numbers-of .ensures .1)
     ∙ ap (λ (x : Numbers). setTo (syncOf x (arraysOf s)) (n .before .args .version)) (n .numbers-of .ensures .0)
 
 pub set-firmware-spec : {M : Type 1} → statement M

@@ -28,7 +28,7 @@ returns c =
     let a = n .before .before .args in
     let s = ofSync (a .self) in
     left s (n .numbers-of .ensures .0) (model.tick (a .time) (length (a .out .now))) (a .out .now)
-    (c .answered .ensures (t .tick .last .1 .1 .0) ∙ t .tick .ensures (arraysOf s) (n .numbers-of .ensures .1))
+    (c .answered .ensures (t .tick .last .1 .1 .0) ∙ t .tick .ensures .0 (arraysOf s) (n .numbers-of .ensures .1))
 
 pub tick-spec : {M : Type 1} → statement M
 tick-spec = tie.close (tie.spec numbers-of-requires tick-requires answered-requires same-length returns)

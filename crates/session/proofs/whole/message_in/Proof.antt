@@ -29,7 +29,7 @@ returns c =
     let r = m .message .result in
     left-message (ofSync (a .s)) (n .numbers-of .ensures .0) (model.message (a .time) (a .payload .now) (length (a .out .now))) (a .out .now) (b .pre)
     ((λ i. record { number = r .number; count = r .count; sync = c .built .ensures i; out = m .message .last .1 .1 .1 .1 .1 .1 .1 .1 .1 .1 .1 .0 })
-    ∙ m .message .ensures (a .s .held .f2) (n .numbers-of .ensures .1))
+    ∙ m .message .ensures .0 (a .s .held .f2) (n .numbers-of .ensures .1))
 
 pub message-in-spec : {M : Type 1} → statement M
 message-in-spec = tie.close (tie.spec numbers-of-requires message-requires built-requires same-length returns)

@@ -29,7 +29,7 @@ returns c =
     let r = m .part .result in
     left-part (ofSync (a .s)) (n .numbers-of .ensures .0) (model.message (a .time) (a .payload .now) (length (a .out .now))) (a .out .now) (b .pre)
     ((λ i. record { number = r .number; count = r .count; sync = c .built .ensures i; out = m .part .last .1 .1 .1 .1 .1 .1 .1 .1 .1 .0 })
-    ∙ m .part .ensures (a .s .held .fresh .pgns) (a .s .held .list .pgns) (a .s .held .learned .saved .pgns) (n .numbers-of .ensures .1))
+    ∙ m .part .ensures .0 (a .s .held .fresh .pgns) (a .s .held .list .pgns) (a .s .held .learned .saved .pgns) (n .numbers-of .ensures .1))
 
 pub part-in-spec : {M : Type 1} → statement M
 part-in-spec = tie.close (tie.spec numbers-of-requires part-requires built-requires same-length returns)
