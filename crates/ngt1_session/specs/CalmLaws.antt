@@ -15,10 +15,10 @@ use Rattle.tx_list.specs.Reading.{tick, message}
 use Rattle.phases.specs.Sync.{Told, called}
 use Rattle.phases.proofs.LentCalls.{idle-quiet, ignored-quiet}
 use Rattle.phases.specs.Sound.{helm}
-use Rattle.phases.specs.Lent.{Arrays, Fits, syncOf, uncounted, soundFor, waitsIn, dueAt, mindsIn, idleAt, ignoredAt}
-use Rattle.numbers.specs.Layout.{isSet, calm, dueIn, stateOf}
+use Rattle.phases.specs.Lent.{Arrays, Fits, syncOf, soundFor, waitsIn, dueAt, mindsIn, idleAt, ignoredAt}
+use Rattle.numbers.specs.Layout.{calm, dueIn, stateOf}
 use Rattle.numbers.specs.LayoutLaws.{by-phase, Calm, calm-parts}
-use Rattle.ngt1_session.specs.Session.{ignoresOn, numbersIn, answers}
+use Rattle.ngt1_session.specs.Session.{ignoresOn, restsOn, numbersIn, answers}
 use Rattle.ngt1_session.specs.SessionLaws.{did-answer}
 
 -- one look tells: a session whose numbers are calm is well formed
@@ -36,32 +36,26 @@ module _ (n : List ℕ) (z : Calm n) where
   wider : (k : ℕ) → leb k 192 ≡ true → leb k 256 ≡ true
   wider k e = let h : k ≤ 192 = leb-true _ _ e in le-leb k 256 (omega arith)
 
-  fits : (b : Bool) → countsFit helm (pick b (uncounted counted) counted) ≡ true
-  fits true = rw (z .wanted, z .owed, z .fresh, z .list, z .known, wider _ (z .saved), wider _ (z .present), wider _ (z .refused))
-  fits false = rw (z .proprietary, z .wanted, z .owed, z .fresh, z .list, z .known, wider _ (z .saved), wider _ (z .present), wider _ (z .refused))
+  fits : countsFit helm counted ≡ true
+  fits = rw (z .proprietary, z .wanted, z .owed, z .fresh, z .list, z .known, wider _ (z .saved), wider _ (z .present), wider _ (z .refused))
 
-  old : (b : Bool) → oldFits (pick b (uncounted counted) counted) ≡ true
-  old true = rw (z .saved, z .present, z .refused)
-  old false = rw (z .saved, z .present, z .refused)
+  old : oldFits counted ≡ true
+  old = rw (z .saved, z .present, z .refused)
 
-  saving : (b : Bool) → leb (pick b (uncounted counted) counted .saved + pick b (uncounted counted) counted .fresh) 256 ≡ true
-  saving true = sums
-  saving false = sums
-
-  at-phase : (b : Bool) (k p : ℕ) → p ≤ 7 → (p ≡ 4 → ⊥) → soundAt helm (pick b (uncounted counted) counted) (stateOf p k) ≡ true
-  at-phase b k =
-      by-phase (λ (p : ℕ). soundAt helm (pick b (uncounted counted) counted) (stateOf p k) ≡ true)
-      (rw (fits b, old b))
-      (rw (fits b, old b))
-      (rw (fits b, old b))
-      (rw (fits b, old b))
-      (rw (fits b, saving b))
-      (rw (fits b, saving b))
-      (rw (fits b))
+  at-phase : (k p : ℕ) → p ≤ 7 → (p ≡ 4 → ⊥) → soundAt helm counted (stateOf p k) ≡ true
+  at-phase k =
+      by-phase (λ (p : ℕ). soundAt helm counted (stateOf p k) ≡ true)
+      (rw (fits, old))
+      (rw (fits, old))
+      (rw (fits, old))
+      (rw (fits, old))
+      (rw (fits, sums))
+      (rw (fits, sums))
+      (rw fits)
 
   pub calm-sound : soundFor (numbersIn n) ≡ true
   unfolding soundFor
-  calm-sound = at-phase (isSet (getD n 16 0)) (getD n 1 0 % 4294967296) (getD n 0 0) (z .phase) (z .other)
+  calm-sound = at-phase (getD n 1 0 % 4294967296) (getD n 0 0) (z .phase) (z .other)
 
   same-due : (t : ℕ) → dueIn (getD n 0 0) (getD n 11 0) t ≡ dueAt (numbersIn n) t
   unfolding dueAt
@@ -104,3 +98,18 @@ idle-answers n a out t z e d =
 pub ignored-answers : (n : List ℕ) (a : Arrays) (out : List ℕ) (t : ℕ) (m : List ℕ) → Fits a → ignoresOn n t m (length out) ≡ true
     → called (syncOf (numbersIn n) a) (message t m (length out)) out ≡ record { number = 0; count = 0; sync = syncOf (numbersIn n) a; out = out }
 ignored-answers n a out t m z e = ignored-quiet (numbersIn n) a t m (length out) out z (looks-ignored n t m (length out) e)
+
+-- the numbers after a tick: as they were where one look told that it does nothing, else l
+module _ (n : List ℕ) (t room : ℕ) (l : List ℕ) where
+  pub rests-due : {m : List ℕ} → dueIn (getD n 0 0) (getD n 11 0) t ≡ true → m ≡ l → m ≡ pick (restsOn n t room) n l
+  unfolding restsOn
+  rests-due d e = rw d e
+
+  pub rests-idle : dueIn (getD n 0 0) (getD n 11 0) t ≡ false → (calm n && (leb t 18446744073709541615 && leb 32 room)) ≡ true → n ≡ pick (restsOn n t room) n l
+  unfolding restsOn
+  rests-idle d e = rw (d, e)
+
+  pub rests-busy : {m : List ℕ} → dueIn (getD n 0 0) (getD n 11 0) t ≡ false → (calm n && (leb t 18446744073709541615 && leb 32 room)) ≡ false → m ≡ l
+      → m ≡ pick (restsOn n t room) n l
+  unfolding restsOn
+  rests-busy d e f = rw (d, e) f

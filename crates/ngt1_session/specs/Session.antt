@@ -14,7 +14,7 @@ use Rattle.phases.specs.declared.Numbers.{Numbers}
 use Rattle.tx_list.specs.Reading.{message}
 use Rattle.tx_list.specs.Session.{silent, fromWhole, fromPart}
 use Rattle.phases.specs.Lent.{Arrays, Fits, lent, syncOf, readsF2, mindsIn}
-use Rattle.numbers.specs.Layout.{isSet, one, stateOf, phaseOf, attemptOf, countsIn, calm}
+use Rattle.numbers.specs.Layout.{isSet, one, stateOf, phaseOf, attemptOf, countsIn, calm, dueIn}
 use Rattle.ngt1_session.specs.declared.Answer.{Answer}
 use Rattle.ngt1_session.specs.declared.PartAnswer.{PartAnswer}
 
@@ -56,6 +56,15 @@ numbersAs x =
     ∷ x .totals .version
     ∷ one (x .totals .blank)
     ∷ []
+
+-- the numbers after a call: in a refusal those handed in ("6 to 16 return the number alone and change no state or lent byte"), else
+-- those of the session that they hold, each in the one form that is stored
+abbrev pub leaves : ℕ → List ℕ → List ℕ → List ℕ
+leaves k n n′ = pick (eqb k 0) (numbersAs (numbersIn n′)) n
+
+-- a tick that would do nothing, told by one look (decision 70): the numbers stay as they are
+unfoldable pub restsOn : List ℕ → ℕ → ℕ → Bool
+restsOn n t room = not (dueIn (getD n 0 0) (getD n 11 0) t) && (calm n && (leb t 18446744073709541615 && leb 32 room))
 
 -- what a call leaves in the caller's memory
 abbrev pub toldOn : Answer → List ℕ → Arrays → List ℕ → Told

@@ -1,9 +1,12 @@
 -- Laws of the session in the caller's memory: its numbers there and back, and what a call that did its work leaves. Assumes nothing.
 use Prim.Native.Nat.{ℕ, _%_, _≤_, _<_}
 use native.Mathlib.Omega.{arith}
-use mathlib.Core.Path.{_≡_, sym, ap, _∙_}
+use mathlib.Core.Path.{_≡_, refl, sym, ap, _∙_}
+use mathlib.Core.Bool.{Bool, true, false}
 use mathlib.Core.List.{List, [], _∷_, _++_, append-nil}
-use borrow.Author.Tests.{lt-ltb, le-ltb}
+use borrow.Author.Tests.{lt-ltb, le-ltb, eqb-true, eqb-false}
+use lib.Dec.{eqb}
+use Rattle.field.specs.Pick.{pick}
 use lib.ListN.{length, getD, drop}
 use lib.Seq.{sets, drop-length}
 use Rattle.field.specs.WrittenLaws.{sets-written}
@@ -12,7 +15,7 @@ use Rattle.phases.specs.declared.Numbers.{Numbers}
 use Rattle.phases.specs.Lent.{Arrays, syncOf}
 use Rattle.numbers.specs.Layout.{one, phaseOf, attemptOf}
 use Rattle.numbers.specs.LayoutLaws.{set-one, state-back}
-use Rattle.ngt1_session.specs.Session.{numbersIn, numbersAs, answers, renews, asks}
+use Rattle.ngt1_session.specs.Session.{numbersIn, numbersAs, leaves, answers, renews, asks}
 
 -- a list as long as the one it is written over takes its place
 sets-all-of : (new old : List ℕ) → length old ≡ length new → sets old 0 new ≡ new
@@ -22,7 +25,7 @@ sets-all-of new old e =
     ∙ append-nil new
 
 -- the numbers, there and back
-numbers-back : (x : Numbers) → attemptOf (x .state) < 4294967296 → x .totals .version < 65536 → numbersIn (numbersAs x) ≡ x
+pub numbers-back : (x : Numbers) → attemptOf (x .state) < 4294967296 → x .totals .version < 65536 → numbersIn (numbersAs x) ≡ x
 numbers-back x h g =
     let v : x .totals .version % 65536 ≡ x .totals .version = omega arith in
     λ i.
@@ -69,12 +72,9 @@ pub stored : (x : Numbers) (old last : List ℕ) {p a r w t b : ℕ}
     → w ≡ one (x .totals .complete)
     → t ≡ one (x .totals .told)
     → b ≡ one (x .totals .blank)
-    → attemptOf (x .state) < 4294967296
-    → x .totals .version < 65536
-    → numbersIn last ≡ x
-stored x old last z e p a r w t b h g =
-    ap numbersIn
-    (e
+    → last ≡ numbersAs x
+stored x old last z e p a r w t b =
+    e
     ∙ (λ i.
     sets old 0
     (p i
@@ -95,8 +95,19 @@ stored x old last z e p a r w t b h g =
     ∷ x .totals .version
     ∷ b i
     ∷ []))
-    ∙ sets-all-of (numbersAs x) old z)
-    ∙ numbers-back x h g
+    ∙ sets-all-of (numbersAs x) old z
+
+-- what is left, n′, where a call answered k and the numbers y
+pub kept-numbers : (n n′ : List ℕ) (k : ℕ) (y : Numbers) → n′ ≡ pick (eqb k 0) (numbersAs y) n → (k ≡ 0 → numbersIn n′ ≡ y) → ((k ≡ 0 → ⊥) → y ≡ numbersIn n)
+    → numbersIn n′ ≡ y
+kept-numbers n n′ k y e f g = by-number (eqb k 0) refl
+  where
+    by-number : (b : Bool) → eqb k 0 ≡ b → numbersIn n′ ≡ y
+    by-number true q = f (eqb-true k 0 q)
+    by-number false q = ap numbersIn (e ∙ ap (λ (b : Bool). pick b (numbersAs y) n) q) ∙ sym (g (eqb-false k 0 q))
+
+pub kept-leaves : (n n′ : List ℕ) (k : ℕ) (y : Numbers) → n′ ≡ pick (eqb k 0) (numbersAs y) n → numbersIn n′ ≡ y → n′ ≡ leaves k n n′
+kept-leaves n n′ k y e f = e ∙ ap (λ (x : Numbers). pick (eqb k 0) (numbersAs x) n) (sym f)
 
 -- a phase over 7
 module _ (n : List ℕ) (a : Arrays) (h : 7 < getD n 0 0) where

@@ -13,8 +13,10 @@ use phases::Renewed;
 use phases::Totals;
 ghost use mathlib.Core.Path.{_≡_};
 ghost use Prim.Native.Nat.{_<_};
+ghost use lib.Dec.{eqb};
 ghost use lib.ListN.{length, set};
-ghost use Rattle.ngt1_session.specs.Session.{numbersIn};
+ghost use Rattle.field.specs.Pick.{pick};
+ghost use Rattle.ngt1_session.specs.Session.{numbersIn, numbersAs};
 
 pub(crate) fn numbers_of(n: &[u64; 17]) -> Numbers
     ensures { λ r. ⌜ r ≡ numbersIn (now (n .entry)) ⌝ }
@@ -34,7 +36,7 @@ pub(crate) fn numbers_of(n: &[u64; 17]) -> Numbers
 }
 
 pub(crate) fn store(n: &mut [u64; 17], x: Numbers)
-    ensures { λ r. ⌜ numbersIn (now (n .exit)) ≡ x ⌝ }
+    ensures { λ r. ⌜ (now (n .exit) ≡ numbersAs x) × (numbersIn (now (n .exit)) ≡ x) ⌝ }
 {
     let st = x.state;
     let t = x.totals;
@@ -71,10 +73,22 @@ pub(crate) fn put(n: &mut [u64], at: usize, x: u64)
     n[at] = x;
 }
 
-// Stores the numbers of a session that was renewed; answers 0 or the refusal's number.
-pub(crate) fn keep(n: &mut [u64; 17], r: Renewed) -> u64
-    ensures { λ k. ⌜ (k ≡ r .number) × (numbersIn (now (n .exit)) ≡ r .numbers) ⌝ }
+// Stores the numbers that a call answers; in a refusal those handed in stay as they are.
+pub(crate) fn leave(n: &mut [u64; 17], number: u8, x: Numbers)
+    ensures { λ r. ⌜ now (n .exit) ≡ pick (eqb number 0) (numbersAs x) (now (n .entry)) ⌝ }
+    ensures { λ r. ⌜ (number ≡ 0 → numbersIn (now (n .exit)) ≡ x) ⌝ }
 {
-    store(n, r.numbers);
+    if number == 0 {
+        store(n, x);
+    }
+}
+
+// The same for a session that was renewed; answers 0 or the refusal's number.
+pub(crate) fn keep(n: &mut [u64; 17], r: Renewed) -> u64
+    ensures { λ k. ⌜ k ≡ r .number ⌝ }
+    ensures { λ k. ⌜ now (n .exit) ≡ pick (eqb (r .number) 0) (numbersAs (r .numbers)) (now (n .entry)) ⌝ }
+    ensures { λ k. ⌜ (r .number ≡ 0 → numbersIn (now (n .exit)) ≡ r .numbers) ⌝ }
+{
+    leave(n, r.number, r.numbers);
     r.number as u64
 }

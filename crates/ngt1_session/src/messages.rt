@@ -1,9 +1,9 @@
 // A message of the gateway.
 use super::Answer;
 use super::PartAnswer;
+use super::memory::leave;
 use super::memory::numbers_of;
 use super::memory::put;
-use super::memory::store;
 use lists::F2List;
 use numbers::is_calm;
 use numbers::size;
@@ -12,10 +12,12 @@ use views::F1Kind;
 ghost use mathlib.Core.Path.{_≡_};
 ghost use mathlib.Core.List.{List};
 ghost use Prim.Native.Nat.{ℕ, _≤_};
+ghost use lib.Dec.{eqb};
 ghost use lib.ListN.{getD};
-ghost use Rattle.phases.specs.Lent.{Fits, lent, mindsIn};
+ghost use Rattle.field.specs.Pick.{pick};
+ghost use Rattle.phases.specs.Lent.{Fits, lent, mindsIn, hand, handed};
 ghost use Rattle.numbers.specs.Layout.{stateOf};
-ghost use Rattle.ngt1_session.specs.Session.{unheeded, addedOn, addsOn, toldOn, toldPartOn, hears, hearsPart, ignoresOn};
+ghost use Rattle.ngt1_session.specs.Session.{numbersIn, leaves, unheeded, addedOn, addsOn, toldOn, toldPartOn, hears, hearsPart, ignoresOn};
 
 // Whether a message starts with none of the bytes that are of interest in any phase.
 fn is_unheeded(payload: &[u8]) -> bool
@@ -142,6 +144,7 @@ pub extern "C" fn ngt1_session_message(
     out: &mut [u8],
 ) -> Answer
     ensures { λ r. ⌜ ((f : F2List) → Fits (lent (now (wanted .entry)) (now (owed .entry)) (now (fresh .entry)) (now (list .entry)) (now (known .entry)) (now (saved .entry)) (now (present .entry)) (now (refused .entry)) f) → toldOn r (now (n .exit)) (lent (now (wanted .exit)) (now (owed .exit)) (now (fresh .exit)) (now (list .exit)) (now (known .exit)) (now (saved .exit)) (now (present .exit)) (now (refused .exit)) f) (now (out .exit)) ≡ hears (now (n .entry)) (lent (now (wanted .entry)) (now (owed .entry)) (now (fresh .entry)) (now (list .entry)) (now (known .entry)) (now (saved .entry)) (now (present .entry)) (now (refused .entry)) f) time (now (payload .entry)) (now (out .entry))) ⌝ }
+    ensures { λ r. ⌜ now (n .exit) ≡ leaves (r .number) (now (n .entry)) (now (n .exit)) ⌝ }
 {
     if 7 < n[0] {
         return Answer {
@@ -163,7 +166,7 @@ pub extern "C" fn ngt1_session_message(
         payload,
         out,
     );
-    store(n, r.numbers);
+    leave(n, r.number, r.numbers);
     Answer {
         number: r.number as u64,
         count: r.count as u64,
@@ -185,6 +188,8 @@ pub extern "C" fn ngt1_session_part(
     out: &mut [u8],
 ) -> PartAnswer
     ensures { λ r. ⌜ ((fresh list saved : List ℕ) → Fits (lent (now (wanted .entry)) (now (owed .entry)) fresh list (now (known .entry)) saved (now (present .entry)) (now (refused .entry)) parts) → toldPartOn r (now (n .exit)) (lent (now (wanted .exit)) (now (owed .exit)) fresh list (now (known .exit)) saved (now (present .exit)) (now (refused .exit))) (now (out .exit)) ≡ hearsPart (now (n .entry)) (lent (now (wanted .entry)) (now (owed .entry)) fresh list (now (known .entry)) saved (now (present .entry)) (now (refused .entry)) parts) time (now (payload .entry)) (now (out .entry))) ⌝ }
+    ensures { λ r. ⌜ now (n .exit) ≡ leaves (r .number) (now (n .entry)) (now (n .exit)) ⌝ }
+    ensures { λ r. ⌜ hand (numbersIn (now (n .exit))) (r .parts) ≡ pick (eqb (r .number) 0) (handed (numbersIn (now (n .entry))) parts (now (payload .entry))) (hand (numbersIn (now (n .entry))) parts) ⌝ }
 {
     if 7 < n[0] {
         return PartAnswer {
@@ -205,7 +210,7 @@ pub extern "C" fn ngt1_session_part(
         payload,
         out,
     );
-    store(n, r.numbers);
+    leave(n, r.number, r.numbers);
     let after = r.f2;
     PartAnswer {
         number: r.number as u64,

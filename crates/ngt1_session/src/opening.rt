@@ -8,13 +8,14 @@ ghost use Prim.Native.Nat.{ℕ};
 ghost use Rattle.lists.specs.declared.F2List.{F2List};
 ghost use Rattle.phases.specs.Sync.{setTo, restarted, abandoned, lackOf, toldLacks};
 ghost use Rattle.phases.specs.Lent.{Arrays, Fits, lent, syncOf, begunIn};
-ghost use Rattle.ngt1_session.specs.Session.{numbersIn, renewedOn, renews, lackNumber, asks};
+ghost use Rattle.ngt1_session.specs.Session.{numbersIn, leaves, renewedOn, renews, lackNumber, asks};
 
 // A session that wants these PGNs. The record's lists stay where they stand, with the counts that the numbers give; nothing else of the
 // numbers counts. Answers 0, or 16 for a phase over 7, 11, 12.
 #[no_mangle]
 pub extern "C" fn ngt1_session_begin(n: &mut [u64; 17], wanted: &mut [u32; 64], want: &[u32]) -> u64
     ensures { λ r. ⌜ ((o u l k s p q : List ℕ) (f : F2List) → renewedOn r (now (n .exit)) (lent (now (wanted .exit)) o u l k s p q f) ≡ renews (now (n .entry)) (lent (now (wanted .entry)) o u l k s p q f) (begunIn (numbersIn (now (n .entry))) (now (want .entry)) (lent (now (wanted .entry)) o u l k s p q f))) ⌝ }
+    ensures { λ r. ⌜ now (n .exit) ≡ leaves r (now (n .entry)) (now (n .exit)) ⌝ }
 {
     if 7 < n[0] {
         return 16;
@@ -27,6 +28,7 @@ pub extern "C" fn ngt1_session_begin(n: &mut [u64; 17], wanted: &mut [u32; 64], 
 #[no_mangle]
 pub extern "C" fn ngt1_session_restart(n: &mut [u64; 17]) -> u64
     ensures { λ r. ⌜ ((a : Arrays) → Fits a → renewedOn r (now (n .exit)) a ≡ renews (now (n .entry)) a (restarted (syncOf (numbersIn (now (n .entry))) a))) ⌝ }
+    ensures { λ r. ⌜ now (n .exit) ≡ leaves r (now (n .entry)) (now (n .exit)) ⌝ }
 {
     if 7 < n[0] {
         return 16;
@@ -39,6 +41,7 @@ pub extern "C" fn ngt1_session_restart(n: &mut [u64; 17]) -> u64
 #[no_mangle]
 pub extern "C" fn ngt1_session_firmware(n: &mut [u64; 17], version: u16) -> u64
     ensures { λ r. ⌜ ((a : Arrays) → Fits a → renewedOn r (now (n .exit)) a ≡ renews (now (n .entry)) a (setTo (syncOf (numbersIn (now (n .entry))) a) version)) ⌝ }
+    ensures { λ r. ⌜ now (n .exit) ≡ leaves r (now (n .entry)) (now (n .exit)) ⌝ }
 {
     if 7 < n[0] {
         return 16;
@@ -51,6 +54,7 @@ pub extern "C" fn ngt1_session_firmware(n: &mut [u64; 17], version: u16) -> u64
 #[no_mangle]
 pub extern "C" fn ngt1_session_abandon(n: &mut [u64; 17]) -> u64
     ensures { λ r. ⌜ ((a : Arrays) → Fits a → renewedOn r (now (n .exit)) a ≡ renews (now (n .entry)) a (abandoned (syncOf (numbersIn (now (n .entry))) a))) ⌝ }
+    ensures { λ r. ⌜ now (n .exit) ≡ leaves r (now (n .entry)) (now (n .exit)) ⌝ }
 {
     if 7 < n[0] {
         return 16;

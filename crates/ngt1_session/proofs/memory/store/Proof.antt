@@ -1,11 +1,12 @@
 -- `ngt1_session::memory::store` meets its contract. Assumes nothing.
 use Prim.Native.Nat.{_<_}
 use native.Mathlib.Omega.{arith}
-use mathlib.Core.Path.{_≡_}
+use mathlib.Core.Path.{_≡_, ap, _∙_}
 use borrow.Author.Needs.{needs}
 use lib.ListN.{length}
 use Rattle.numbers.specs.Layout.{attemptOf}
-use Rattle.ngt1_session.specs.SessionLaws.{stored}
+use Rattle.ngt1_session.specs.Session.{numbersIn}
+use Rattle.ngt1_session.specs.SessionLaws.{stored, numbers-back}
 use Rattle.ngt1_session.proofs.memory.store.Statement.{statement}
 use Rattle.ngt1_session.proofs.memory.store.Tie as tie
 
@@ -52,8 +53,9 @@ returns c =
     let p = k .before in
     let b = p .before .before .before .before in
     let h : attemptOf (b .args .x .state) < 4294967296 = omega (arith, k .attempt-of .ensures) in
-    stored (b .args .x) (b .args .n .now) (c .give .last .0) (long (p .before)) (c .give .ensures .1 (omega (arith, long (p .before))) .1) (p .phase-of .ensures) (k .attempt-of .ensures .0)
-    (w .one-if .ensures) (u .one-if2 .ensures) (t .one-if3 .ensures) (g .one-if4 .ensures) h (short b)
+    let e = stored (b .args .x) (b .args .n .now) (c .give .last .0) (long (p .before)) (c .give .ensures .1 (omega (arith, long (p .before))) .1) (p .phase-of .ensures) (k .attempt-of .ensures .0)
+    (w .one-if .ensures) (u .one-if2 .ensures) (t .one-if3 .ensures) (g .one-if4 .ensures) in
+    (e, ap numbersIn e ∙ numbers-back (b .args .x) h (short b))
 
 pub store-spec : {M : Type 1} → statement M
 store-spec =

@@ -1,11 +1,11 @@
 -- `ngt1_session::ticks::ngt1_session_tick` meets its contract. Assumes nothing.
 use mathlib.Core.Path.{_≡_, sym, ap, _∙_}
-use mathlib.Core.Bool.{Bool, true, _&&_}
+use mathlib.Core.Bool.{Bool, true, false, _&&_}
 use borrow.Author.Needs.{needs}
 use lib.Dec.{leb}
 use lib.ListN.{length}
 use Rattle.numbers.specs.Layout.{calm}
-use Rattle.ngt1_session.specs.CalmLaws.{idle-answers}
+use Rattle.ngt1_session.specs.CalmLaws.{idle-answers, rests-due, rests-idle, rests-busy}
 use Rattle.ngt1_session.proofs.ticks.ngt1_session_tick.Statement.{statement}
 use Rattle.ngt1_session.proofs.ticks.ngt1_session_tick.Tie as tie
 
@@ -25,7 +25,12 @@ same-length : tie.Need-same-length
 same-length c = search needs
 
 returns : tie.Need-returns
-returns c = c .before .before .tick-on .ensures
+returns c =
+    let t = c .before .before in
+    let i = t .before .before .before in
+    let d = i .before in
+    let b = d .before .before .before .before in
+    (t .tick-on .ensures .0, rests-due (b .args .n .now) (b .args .time) (length (b .args .out .now)) _ (sym (d .is-due .ensures) ∙ i .if1 .taken) (t .tick-on .ensures .1))
 
 is-calm-requires : tie.Need-is-calm-requires
 is-calm-requires c κs = search needs
@@ -40,7 +45,8 @@ returns-2 c =
     let o = b .args .out .now in
     let e : (calm n && (leb (b .args .time) 18446744073709541615 && leb 32 (length o))) ≡ true =
     ap (λ (y : Bool). y && (leb (b .args .time) 18446744073709541615 && leb 32 (length o))) (sym (k .is-calm .ensures)) ∙ c .if2 .taken in
-    λ a z. idle-answers n a o (b .args .time) z e (sym (d .is-due .ensures) ∙ i .if1 .left)
+    let f = sym (d .is-due .ensures) ∙ i .if1 .left in
+    (λ a z. idle-answers n a o (b .args .time) z e f, rests-idle n (b .args .time) (length o) _ f e)
 
 tick-on-requires-2 : tie.Need-tick-on-requires-2
 tick-on-requires-2 c κs = search needs
@@ -49,7 +55,17 @@ same-length-2 : tie.Need-same-length-2
 same-length-2 c = search needs
 
 returns-3 : tie.Need-returns-3
-returns-3 c = c .before .before .tick-on2 .ensures
+returns-3 c =
+    let t = c .before .before in
+    let g = t .before .before .before in
+    let k = g .before in
+    let i = k .before .before in
+    let d = i .before in
+    let b = d .before .before .before .before in
+    let o = b .args .out .now in
+    let e : (calm (b .args .n .now) && (leb (b .args .time) 18446744073709541615 && leb 32 (length o))) ≡ false =
+    ap (λ (y : Bool). y && (leb (b .args .time) 18446744073709541615 && leb 32 (length o))) (sym (k .is-calm .ensures)) ∙ g .if2 .left in
+    (t .tick-on2 .ensures .0, rests-busy (b .args .n .now) (b .args .time) (length o) _ (sym (d .is-due .ensures) ∙ i .if1 .left) e (t .tick-on2 .ensures .1))
 
 pub ngt1-session-tick-spec : {M : Type 1} → statement M
 ngt1-session-tick-spec =

@@ -1,9 +1,10 @@
 -- `ngt1_session::ticks::tick_on` meets its contract. Assumes nothing.
+use mathlib.Core.Path.{refl, _∙_}
 use borrow.Author.Needs.{needs}
 use lib.ListN.{length}
 use Rattle.tx_list.specs.Reading as model
 use Rattle.phases.specs.Sync.{Sync, called}
-use Rattle.ngt1_session.specs.SessionLaws.{none-answers, did-answer}
+use Rattle.ngt1_session.specs.SessionLaws.{none-answers, did-answer, kept-numbers, kept-leaves}
 use Rattle.ngt1_session.proofs.ticks.tick_on.Statement.{statement}
 use Rattle.ngt1_session.proofs.ticks.tick_on.Tie as tie
 
@@ -13,7 +14,7 @@ element-copy-out-if1 c = search needs
 returns : tie.Need-returns
 returns c =
     let b = c .before .before .before in
-    λ a z. none-answers (b .args .n .now) a (c .if1 .taken) (b .args .out .now) _
+    (λ a z. none-answers (b .args .n .now) a (c .if1 .taken) (b .args .out .now) _, refl)
 
 numbers-of-requires : tie.Need-numbers-of-requires
 numbers-of-requires c κs = search needs
@@ -21,8 +22,8 @@ numbers-of-requires c κs = search needs
 tick-requires : tie.Need-tick-requires
 tick-requires c κs = search needs
 
-store-requires : tie.Need-store-requires
-store-requires c κs = search needs
+leave-requires : tie.Need-leave-requires
+leave-requires c κs = search needs
 
 cast-t8 : tie.Need-cast-t8
 cast-t8 c = search needs
@@ -38,9 +39,14 @@ returns-2 c =
     let i = m .before .before in
     let b = i .before .before .before in
     let o = b .args .out .now in
-    λ a z.
-    did-answer (b .args .n .now) (s .store .last .0) (i .if1 .left) (m .numbers-of .ensures) (s .store .ensures) a a o (t .tick .last .1 .1 .0)
-    (λ (q : Sync). called q (model.tick (b .args .time) (length o)) o) (t .tick .ensures a z)
+    let n = b .args .n .now in
+    let r = t .tick .result in
+    let f = kept-numbers n (s .leave .last .0) (r .number) (r .numbers) (s .leave .ensures .0) (s .leave .ensures .1) (λ z. t .tick .ensures .1 z ∙ m .numbers-of .ensures) in (
+      λ a z.
+          did-answer n (s .leave .last .0) (i .if1 .left) (m .numbers-of .ensures) f a a o (t .tick .last .1 .1 .0)
+          (λ (q : Sync). called q (model.tick (b .args .time) (length o)) o) (t .tick .ensures .0 a z),
+      kept-leaves n (s .leave .last .0) (r .number) (r .numbers) (s .leave .ensures .0) f,
+    )
 
 pub tick-on-spec : {M : Type 1} → statement M
 tick-on-spec =
@@ -50,7 +56,7 @@ tick-on-spec =
     returns
     numbers-of-requires
     tick-requires
-    store-requires
+    leave-requires
     cast-t8
     same-length
     returns-2)
