@@ -2,16 +2,18 @@
 use Prim.Native.Nat.{ℕ, _+_, _%_, _≤_}
 use native.Mathlib.Omega.{arith}
 use mathlib.Core.Path.{_≡_, refl, sym, ap, _∙_}
-use mathlib.Core.Bool.{Bool, true, false}
+use mathlib.Core.Bool.{Bool, true, false, _&&_}
 use mathlib.Core.List.{List, []}
-use borrow.Author.Tests.{le-ltb}
-use lib.Dec.{ltb}
+use borrow.Author.Tests.{le-ltb, le-leb, leb-true, eq-eqb, eqb-true}
+use lib.Dec.{eqb, leb, ltb}
 use Rattle.field.specs.Pick.{pick}
 use lib.ListN.{length, getD, set, length-set}
 use lib.Seq.{sets, getD-set-same, getD-set-other}
 use Rattle.lists.specs.declared.F2List.{F2List}
 use Rattle.views.specs.ViewsLaws.{listPgns-length}
-use Rattle.tx_list.specs.Views.{F1, adds, f1Of, added, listPgns, groupCount, pgnsAt}
+use Rattle.tx_list.specs.Views.{F1, adds, starts, sequence, f1By, f1Of, added, listPgns, groupCount, pgnsAt}
+use Rattle.tx_list.specs.Live.{isPage}
+use Rattle.tx_list.proofs.LiveLists.{false-true}
 use Rattle.tx_list.specs.Memory.{Flat}
 use Rattle.tx_list.specs.Moves.{soundIn, fullIn, addsTo, inF1, heard}
 use Rattle.tx_list.specs.Stored.{wire}
@@ -24,10 +26,10 @@ use Rattle.phases.specs.LentLaws.{sized, sound-flat, other}
 use Rattle.phases.specs.LentReading.{listing, adds-in}
 use Rattle.phases.proofs.CallLaws.{message-by, judged, message-taken}
 use Rattle.phases.proofs.HeardLaws.{by-state, hears-f1}
-use Rattle.phases.specs.Lent.{Fits, lent, syncOf, syncOf, awaiting, readsF2}
+use Rattle.phases.specs.Lent.{Fits, lent, syncOf, awaiting, readsF2}
 use Rattle.numbers.specs.Layout.{calm, stateOf}
 use Rattle.numbers.specs.LayoutLaws.{calm-parts}
-use Rattle.ngt1_session.specs.Session.{hears, addedOn, addsOn, numbersIn}
+use Rattle.ngt1_session.specs.Session.{hears, Added, addTold, addedIf, hasRoom, addsNow, addsOn, numbersIn}
 use Rattle.ngt1_session.specs.SessionLaws.{did-answer}
 use Rattle.ngt1_session.specs.CalmLaws.{calm-sound}
 
@@ -114,9 +116,66 @@ module _ (n l m : List ℕ) (t : ℕ) (c : calm n ≡ true) (two : getD n 0 0 �
       ∙ message-by S t m (length out) out taken (sized x A z) (judged _ _ sure ∙ message-taken t m (length out) _ h short room (has-room (syncOf x A) refl))
       ∙ other _ _ (ap readsF2 in-phase))
 
--- what the export for such a message tells, by what was added
-pub adds-by : (n l m : List ℕ) (t room : ℕ) → calm n ≡ true → getD n 0 0 ≡ 2 → t ≤ 18446744073709541615 → length m ≤ 255 → 32 ≤ room → adds (listPgns m) ≡ f1Of m
-    → (r : Bool) (n′ l′ : List ℕ) → addedOn n l t m r n′ l′ → addsOn n l t m room r n′ l′
-adds-by n l m t room c two h short large a true n′ l′ d =
-    λ w o u k s p q out f z e. adds-done n l m t c two h short a n′ l′ (d .0) (d .1) (d .2) (d .3) w o u k s p q out f z (omega (arith, e, large))
-adds-by n l m t room c two h short large a false n′ l′ d = d
+-- The test of `addsNow`, part by part
+
+seven : (a b c d e f g : Bool)
+    → (a && (b && (c && (d && (e && (f && g)))))) ≡ true
+    → (a ≡ true) × (b ≡ true) × (c ≡ true) × (d ≡ true) × (e ≡ true) × (f ≡ true) × (g ≡ true)
+seven true true true true true true g h = (refl, refl, refl, refl, refl, refl, h)
+seven true true true true true false g h = false-true h
+seven true true true true false f g h = false-true h
+seven true true true false e f g h = false-true h
+seven true true false d e f g h = false-true h
+seven true false c d e f g h = false-true h
+seven false b c d e f g h = false-true h
+
+page-by : (a e : Bool) (l : List ℕ) → isPage (f1By a e l) ≡ true → adds l ≡ f1By a e l
+unfolding f1By isPage
+page-by true e l h = refl
+page-by false true l h = false-true h
+page-by false false l h = false-true h
+
+page-is : (m : List ℕ) → isPage (f1Of m) ≡ true → adds (listPgns m) ≡ f1Of m
+unfolding f1Of
+page-is m h = page-by (starts 0x49 m && sequence 1 m) (starts 0x49 m && sequence 4 m) (listPgns m) h
+
+yes-is : (b : Bool) (n l : List ℕ) (t : ℕ) (m : List ℕ) → addedIf b n l t m .yes ≡ b
+unfolding addedIf
+yes-is true n l t m = refl
+yes-is false n l t m = refl
+
+-- where the tests before it hold, what the message is decides, and then its room
+pub adds-by : (n l m : List ℕ) (t room : ℕ)
+    → getD n 0 0 ≡ 2
+    → calm n ≡ true
+    → t ≤ 18446744073709541615
+    → length m ≤ 255
+    → 32 ≤ room
+    → (v : F1)
+    → v ≡ f1Of m
+    → addedIf (isPage v && hasRoom n m) n l t m ≡ addsOn n l t m room
+unfolding addsNow
+adds-by n l m t room two c h short large v e =
+    ap (λ (w : F1). addedIf (isPage w && hasRoom n m) n l t m) e
+    ∙ ap (λ (b : Bool). addedIf b n l t m)
+    (sym
+    (rw (eq-eqb (getD n 0 0) 2 two, c, le-leb t 18446744073709541615 h, le-leb (length m) 255 short, le-leb 32 room large)))
+
+-- where `ngt1_session_add` answers true, the session held is as `ngt1_session_message` would leave it, with 0 and nothing written,
+-- whatever stands in the other arrays
+pub adds-as-message : (n l m : List ℕ) (t room : ℕ) (n′ l′ : List ℕ)
+    → length n ≡ 17
+    → addTold true n′ l′ ≡ addsOn n l t m room
+    → (w o u k s p q out : List ℕ) (f : F2List)
+    → Fits (lent w o u l k s p q f)
+    → length out ≡ room
+    → _≡_ {A = Told} (record { number = 0; count = 0; sync = syncOf (numbersIn n′) (lent w o u l′ k s p q f); out = out })
+    (hears n (lent w o u l k s p q f) t m out)
+unfolding addsNow addedIf hasRoom
+adds-as-message n l m t room n′ l′ long e w o u k s p q out f z r =
+    let y : addsNow n t m room ≡ true = sym (ap (λ (a : Added). a .yes) e ∙ yes-is (addsNow n t m room) n l t m) in
+    let g : addTold true n′ l′ ≡ addedIf true n l t m = e ∙ ap (λ (b : Bool). addedIf b n l t m) y in
+    let d = seven (eqb (getD n 0 0) 2) (calm n) (leb t 18446744073709541615) (leb (length m) 255) (leb 32 room) (isPage (f1Of m)) (hasRoom n m) y in
+    let large : 32 ≤ room = leb-true 32 room (d .4) in
+    adds-done n l m t (d .1) (eqb-true _ _ (d .0)) (leb-true _ _ (d .2)) (leb-true _ _ (d .3)) (page-is m (d .5)) n′ l′ (leb-true _ _ (d .6))
+    (ap (λ (a : Added). a .list) g) (ap (λ (a : Added). a .numbers) g) long w o u k s p q out f z (omega (arith, r, large))

@@ -1,19 +1,19 @@
 -- The session in the caller's memory, as numbers and arrays (phases/specs/Lent): what each export leaves there. Assumes nothing.
-use Prim.Native.Nat.{ℕ, _+_, _%_, _≤_}
-use mathlib.Core.Path.{_≡_}
+use Prim.Native.Nat.{ℕ, _+_, _%_}
 use mathlib.Core.Bool.{Bool, true, false, not, _&&_}
 use mathlib.Core.List.{List, [], _∷_}
 use lib.Dec.{eqb, leb, ltb}
 use lib.ListN.{length, getD, set}
 use lib.Seq.{sets}
-use Rattle.tx_list.specs.Views.{groupCount, pgnsAt}
+use Rattle.tx_list.specs.Views.{f1Of, groupCount, pgnsAt}
+use Rattle.tx_list.specs.Live.{isPage}
 use Rattle.field.specs.Pick.{pick}
 use Rattle.lists.specs.declared.F2List.{F2List}
 use Rattle.phases.specs.Sync.{Sync, Begun, Told, called, Said, says, refused}
 use Rattle.phases.specs.declared.Numbers.{Numbers}
 use Rattle.tx_list.specs.Reading.{message}
 use Rattle.tx_list.specs.Session.{silent, fromWhole, fromPart}
-use Rattle.phases.specs.Lent.{Arrays, Fits, lent, syncOf, readsF2, mindsIn}
+use Rattle.phases.specs.Lent.{Arrays, syncOf, readsF2, mindsIn}
 use Rattle.numbers.specs.Layout.{isSet, one, stateOf, phaseOf, attemptOf, countsIn, calm, dueIn}
 use Rattle.ngt1_session.specs.declared.Answer.{Answer}
 use Rattle.ngt1_session.specs.declared.PartAnswer.{PartAnswer}
@@ -125,21 +125,36 @@ lackNumber (refused k) = k
 unfoldable pub asks : List ℕ → ℕ → ℕ
 asks n k = pick (ltb 7 (getD n 0 0)) 16 k
 
--- "reply 49 with byte 1 equal to 1 adds PGNs": where they had room, the list, its count and the due time; else nothing
-abbrev pub addedOn : List ℕ → List ℕ → ℕ → List ℕ → Bool → List ℕ → List ℕ → Type 0
-addedOn n l t m true n′ l′ =
-    (getD n 5 0 + groupCount m ≤ 1024)
-    × (l′ ≡ sets l (getD n 5 0) (pgnsAt m 13 (groupCount m)))
-    × (n′ ≡ set (set n 5 (getD n 5 0 + groupCount m)) 11 (t + 10000))
-    × (length n ≡ 17)
-addedOn n l t m false n′ l′ = (n′ ≡ n) × (l′ ≡ l)
+-- what `ngt1_session_add` tells and leaves: its answer, the numbers and the list
+pub record Added : Type 0 where
+  pub yes : Bool
+  pub numbers : List ℕ
+  pub list : List ℕ
 
--- where it is true, what is left is what the session's own function leaves, whatever stands in the other arrays; else nothing changes
-abbrev pub addsOn : List ℕ → List ℕ → ℕ → List ℕ → ℕ → Bool → List ℕ → List ℕ → Type 0
-addsOn n l t m room true n′ l′ =
-    (w o u k s p q out : List ℕ) (f : F2List)
-    → Fits (lent w o u l k s p q f)
-    → length out ≡ room
-    → _≡_ {A = Told} (record { number = 0; count = 0; sync = syncOf (numbersIn n′) (lent w o u l′ k s p q f); out = out })
-    (hears n (lent w o u l k s p q f) t m out)
-addsOn n l t m room false n′ l′ = (n′ ≡ n) × (l′ ≡ l)
+-- these three
+abbrev pub addTold : Bool → List ℕ → List ℕ → Added
+addTold r n l = record { yes = r; numbers = n; list = l }
+
+-- "adds PGNs", "each answer taken starts that wait anew": where the test holds the list, its count and the due time, else nothing
+unfoldable pub addedIf : Bool → List ℕ → List ℕ → ℕ → List ℕ → Added
+addedIf true n l t m =
+    addTold true (set (set n 5 (getD n 5 0 + groupCount m)) 11 (t + 10000)) (sets l (getD n 5 0) (pgnsAt m 13 (groupCount m)))
+addedIf false n l t m = addTold false n l
+
+-- 14 "Format 1 list would pass 1,024": it would not
+unfoldable pub hasRoom : List ℕ → List ℕ → Bool
+hasRoom n m = leb (getD n 5 0 + groupCount m) 1024
+
+-- "In Format 1, reply 49 with byte 1 equal to 1 adds PGNs": Format 1 is read, it is such a reply, and there is no 16 (`calm`), 13, 6, 7 or 14
+unfoldable pub addsNow : List ℕ → ℕ → List ℕ → ℕ → Bool
+addsNow n t m room =
+    eqb (getD n 0 0) 2
+    && (calm n && (leb t 18446744073709541615 && (leb (length m) 255 && (leb 32 room && (isPage (f1Of m) && hasRoom n m)))))
+
+-- `add_pgns`: the PGNs of a message that is known to add, where they have room
+abbrev pub addedOn : List ℕ → List ℕ → ℕ → List ℕ → Added
+addedOn n l t m = addedIf (hasRoom n m) n l t m
+
+-- `ngt1_session_add` (decision 70): that it is what `ngt1_session_message` would do is `adds-as-message` of AddLaws
+abbrev pub addsOn : List ℕ → List ℕ → ℕ → List ℕ → ℕ → Added
+addsOn n l t m room = addedIf (addsNow n t m room) n l t m

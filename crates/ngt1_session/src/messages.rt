@@ -17,7 +17,7 @@ ghost use lib.ListN.{getD};
 ghost use Rattle.field.specs.Pick.{pick};
 ghost use Rattle.phases.specs.Lent.{Fits, lent, mindsIn, hand, handed};
 ghost use Rattle.numbers.specs.Layout.{stateOf};
-ghost use Rattle.ngt1_session.specs.Session.{numbersIn, leaves, unheeded, addedOn, addsOn, toldOn, toldPartOn, hears, hearsPart, ignoresOn};
+ghost use Rattle.ngt1_session.specs.Session.{numbersIn, leaves, unheeded, addTold, addedOn, addsOn, toldOn, toldPartOn, hears, hearsPart, ignoresOn};
 
 // Whether a message starts with none of the bytes that are of interest in any phase.
 fn is_unheeded(payload: &[u8]) -> bool
@@ -77,7 +77,7 @@ pub extern "C" fn ngt1_session_ignores(
 // PGNs more of a list in Format 1, where they have room; answers whether they had.
 fn add_pgns(n: &mut [u64; 17], list: &mut [u32; 1024], time: u64, payload: &[u8]) -> bool
     requires { ⌜ (getD (now n) 5 0 ≤ 1024) × (time ≤ 18446744073709541615) ⌝ }
-    ensures { λ r. ⌜ addedOn (now (n .entry)) (now (list .entry)) time (now (payload .entry)) r (now (n .exit)) (now (list .exit)) ⌝ }
+    ensures { λ r. ⌜ addTold r (now (n .exit)) (now (list .exit)) ≡ addedOn (now (n .entry)) (now (list .entry)) time (now (payload .entry)) ⌝ }
 {
     let at = size(n[5]);
     let count = views::group_count(payload);
@@ -101,7 +101,7 @@ pub extern "C" fn ngt1_session_add(
     payload: &[u8],
     room: usize,
 ) -> bool
-    ensures { λ r. ⌜ addsOn (now (n .entry)) (now (list .entry)) time (now (payload .entry)) room r (now (n .exit)) (now (list .exit)) ⌝ }
+    ensures { λ r. ⌜ addTold r (now (n .exit)) (now (list .exit)) ≡ addsOn (now (n .entry)) (now (list .entry)) time (now (payload .entry)) room ⌝ }
 {
     if n[0] != 2 {
         return false;
