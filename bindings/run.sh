@@ -1,5 +1,5 @@
 #!/usr/bin/env bash
-# Compiles the C and the Rust example against the two static libraries and runs them; one line for each.
+# Compiles the C and the Rust example, and the trials of the numbers, against the two static libraries and runs them; one line for each.
 # A library is built where it is missing or older than a source. A compiler that is missing is passed over.
 # Exit status 1 where anything failed.
 set -u
@@ -39,7 +39,17 @@ run() {
     fi
 }
 
-# shellcheck disable=SC2086
-run c cc -std=c99 -pedantic -Wall -Wextra -Werror -O2 -I bindings/c bindings/c/example.c $libs -o "$work/c"
-run rust rustc --edition 2024 -D warnings -O bindings/rust/example.rs -L target/staticlib -l static=ngt1_session -l static=ngt1 -o "$work/rust"
+# in_c NAME FILE, in_rust NAME FILE
+in_c() {
+    # shellcheck disable=SC2086
+    run "$1" cc -std=c99 -pedantic -Wall -Wextra -Werror -O2 -I bindings/c "bindings/c/$2" $libs -o "$work/$1"
+}
+in_rust() {
+    run "$1" rustc --edition 2024 -D warnings -O "bindings/rust/$2" -L target/staticlib -l static=ngt1_session -l static=ngt1 -o "$work/$1"
+}
+
+in_c c example.c
+in_c c-numbers numbers.c
+in_rust rust example.rs
+in_rust rust-numbers numbers.rs
 exit $status

@@ -1,18 +1,7 @@
 /* Encodes A1 41, feeds the frame and a damaged copy of it in two pieces, and prints the events; then reads a record and a
  * Format 2 list, and has two gateways transmit PGN 126983. Exit status 1: not as expected. */
 #include "ngt1.h"
-#include <stdio.h>
-#include <string.h>
-
-static int failed = 0;
-
-static void expect(int ok, const char *what)
-{
-    if (!ok) {
-        printf("not as expected: %s\n", what);
-        failed = 1;
-    }
-}
+#include "check.h"
 
 struct decoder {
     uint8_t phase;
@@ -125,12 +114,8 @@ static uint8_t sent[NGT1_MAX_SENT];
 /* a reply of the gateway with no error; how many bytes the session sends, or 1000 and the refusal's number */
 static uint64_t hear(uint8_t bem, uint8_t sequence, const uint8_t *data, size_t len, uint64_t time)
 {
-    uint8_t payload[255] = { 0 };
-    ngt1_answer a;
-    payload[0] = bem;
-    payload[1] = sequence;
-    memcpy(payload + 12, data, len);
-    a = ngt1_session_hear(&session, time, payload, 12 + len, sent, sizeof sent);
+    uint8_t payload[255];
+    ngt1_answer a = ngt1_session_hear(&session, time, payload, reply(payload, bem, sequence, 0, data, len), sent, sizeof sent);
     return a.number == 0 ? a.count : 1000 + a.number;
 }
 
@@ -206,5 +191,5 @@ int main(void)
     records();
     lists();
     sessions();
-    return failed;
+    return ended();
 }

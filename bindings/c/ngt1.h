@@ -34,8 +34,9 @@ extern "C" {
 #define NGT1_MAX_FRAME 520   /* no frame is longer */
 #define NGT1_BUFFER 1024     /* a decoder's buffer, at least */
 
-/* Limit, in PGNs. */
+/* Limits, in PGNs. */
 #define NGT1_MAX_LISTED 767 /* no Format 2 list is longer */
+#define NGT1_MAX_WANTED 64  /* of a session */
 
 /* Phases of a decoder. A new decoder has phase NGT1_IDLE and count 0. */
 #define NGT1_IDLE 0
@@ -53,16 +54,18 @@ extern "C" {
 #define NGT1_MESSAGE 100       /* first = command, second = payload length */
 
 /* Refusals. They change no state and no lent byte. */
-#define NGT1_OVER_LIMIT 6  /* encode: the payload is over 255 bytes */
-#define NGT1_NO_ROOM 7     /* encode: out is under the frame's length; decoder: the buffer is under 1024 bytes; list: out is under 767 */
-#define NGT1_TOO_SHORT 8   /* record: the payload is under 11 bytes */
-#define NGT1_NO_RECORD 9   /* record: the command is not 93 */
-#define NGT1_DATA_PAST 10  /* record: the data pass the payload's end */
+#define NGT1_OVER_LIMIT 6   /* encode: the payload is over 255 bytes; session: the message is */
+#define NGT1_NO_ROOM 7      /* encode: out is under the frame's length; decoder: the buffer is under 1024 bytes;
+                               list: out is under 767; session: out is under 32 bytes */
+#define NGT1_TOO_SHORT 8    /* record: the payload is under 11 bytes */
+#define NGT1_NO_RECORD 9    /* record: the command is not 93 */
+#define NGT1_DATA_PAST 10   /* record: the data pass the payload's end */
 #define NGT1_OVER_WANTED 11 /* session: over 64 PGNs are wanted */
 #define NGT1_OVER_RECORD 12 /* session: a list of the record is over 192 */
 #define NGT1_TIME_OVER 13   /* session: the time is over 18446744073709541615 */
 #define NGT1_OVER_LIST 14   /* session: the Format 1 list would pass 1024 */
-#define NGT1_NOT_FORMED 16 /* decoder: the count is over 1024, or the phase over 3; list: the proprietary count is over 512 */
+#define NGT1_NOT_FORMED 16  /* decoder: the count is over 1024, or the phase over 3; list: the proprietary count is over 512;
+                               session: the phase is over 7, or its counts are none that a session can have */
 
 /* What there is of a Format 2 list, beside 0 and the refusals. */
 #define NGT1_PARTIAL 101 /* not all three parts are in hand */
@@ -174,10 +177,24 @@ ngt1_listed ngt1_parts_pgns(ngt1_parts parts, uint32_t *out, size_t out_len);
 
 /*
  * A start-up session: has the gateway transmit the PGNs that are wanted. Times are milliseconds of a clock that is not set back.
- * Set all of it to 0 once, then call ngt1_session_begin; later sessions go on in the same memory and keep what was learnt.
- * numbers: 0 phase (NGT1_SESSION_DONE: it has ended), 1 attempt, counts of 2 wanted, 3 owed, 4 fresh, 5 list, 6 proprietary,
- * 7 known, 8 saved, 9 present, 10 refused; 11 due time; 12 a list is known, 13 and whole; 14 the firmware was told, 15 its
- * version times 1000; 16 no part of Format 2 is in hand. Read them; write none.
+ * Set all of it to 0 once, then call ngt1_session_begin. Give it the gateway's messages (ngt1_session_hear) and ticks, and send
+ * what they write, until its phase is NGT1_SESSION_DONE. Later sessions go on in the same memory and keep what was learnt.
+ *
+ * The numbers; read them, write none. A count says how many places at the start of the array of that name are in use.
+ *   0   phase, NGT1_SESSION_..
+ *   1   attempt of the read, from 1, in phases 2 and 3; else 0
+ *   2   count of wanted
+ *   3   count of owed, in phase 4: PGNs whose enable command is to be answered, the oldest first
+ *   4   count of fresh, in phases 4 to 6: PGNs newly enabled, which go to saved when activate is answered
+ *   5   count of list: the Format 1 list as far as it was read
+ *   6   how many proprietary PGNs are in hand, in phase 3 where number 16 is 0
+ *   7   count of known, 0 where no list is known
+ *   8   count of saved, 9 of present, 10 of refused: the record
+ *   11  due time, in phases 1 to 6: a tick at or after it acts
+ *   12  1 where a list is known, else 0; 13  1 where it was read whole (Format 2), else 0
+ *   14  1 where the firmware was told, else 0; 15  its version times 1000, where 14 is 1
+ *   16  1 where no part of Format 2 is in hand, else 0
+ * A number with phases says nothing in the others.
  */
 typedef struct {
     uint64_t numbers[17];
@@ -185,19 +202,30 @@ typedef struct {
     uint32_t owed[64];
     uint32_t fresh[64];
     uint32_t list[1024];
-    uint32_t known[1344];   /* the gateway's list, with what was enabled since */
+    uint32_t known[1344];   /* the gateway's list, with what is present or was enabled since */
     uint32_t saved[256];    /* what the gateway confirmed as saved, */
     uint32_t present[256];  /* as already there, */
     uint32_t refused[256];  /* and what it refused */
     ngt1_parts parts;
 } ngt1_session;
 
+/* Phases of a session. */
+#define NGT1_SESSION_AWAITS_MODE 0 /* the gateway tells its mode (reply 11) when it has started */
+#define NGT1_SESSION_WAITS 1       /* 2000 ms, then the list is read */
 #define NGT1_SESSION_READS_F1 2
 #define NGT1_SESSION_READS_F2 3
+#define NGT1_SESSION_ENABLES 4     /* the PGNs owed, one after the other */
+#define NGT1_SESSION_COMMITS 5
+#define NGT1_SESSION_ACTIVATES 6
 #define NGT1_SESSION_DONE 7
-#define NGT1_MAX_SENT 32 /* a session's output, at least */
 
-/* number: 0, or a refusal; count: how many bytes there are to send, at the start of out. */
+#define NGT1_MAX_SENT 32 /* a session's output, at least, whatever is to be sent */
+#define NGT1_MAX_TIME UINT64_C(18446744073709541615) /* no time is later */
+
+/*
+ * number: 0, a refusal, or 100 from the function that a message is not for (below); count: how many bytes there are to send, at the
+ * start of out; parts: to be kept in the session, whatever the number.
+ */
 typedef struct {
     uint64_t number;
     uint64_t count;
@@ -209,26 +237,38 @@ typedef struct {
     ngt1_parts parts;
 } ngt1_part_answer;
 
-/* A session that wants these PGNs, with the record that stands in saved, present and refused. 0, or 16, 11, 12. */
+/*
+ * A session that wants these PGNs. It keeps the record: saved, present and refused, and their counts; of the other numbers 2 is how
+ * many are wanted, 16 is 1, and all others are 0. Answers 0, or 16 (only for a phase over 7), 11, 12.
+ */
 uint64_t ngt1_session_begin(uint64_t numbers[17], uint32_t wanted[64], const uint32_t *want, size_t want_len);
 
-/* The session from its start, as after a restart of the gateway. 0, or 16, 12. */
+/*
+ * The session from its start, as after a restart of the gateway. It keeps what is wanted and the record; no list is known, and
+ * the firmware is not told. Answers 0, or 16, 12.
+ */
 uint64_t ngt1_session_restart(uint64_t numbers[17]);
 
-/* The gateway's firmware version times 1000, from its product information. 0, or 16. */
+/*
+ * The gateway's firmware version times 1000, from its product information. Where 2500 or more is told before the read starts, Format
+ * 2 is read first; else Format 1. Answers 0, or 16.
+ */
 uint64_t ngt1_session_firmware(uint64_t numbers[17], uint16_t version);
 
-/* The gateway has no list to set. 0, or 16. */
+/* The gateway has no list to set: the session is done, and no list is known. Answers 0, or 16. */
 uint64_t ngt1_session_abandon(uint64_t numbers[17]);
 
 /* The passing of time. Refusals: 16, 13, 7. */
 ngt1_answer ngt1_session_tick(uint64_t numbers[17], uint64_t time, uint8_t *out, size_t out_len);
 
-/* What the list says of a PGN: 0 nothing, 1 that it lacks from a whole list, 2 from a partial one, or 16. */
+/*
+ * What the list says of a PGN: 0 nothing, it is on the list or no list is known (see number 12); 1 it lacks from a whole list; 2 it
+ * lacks from a list that may have missed it (Format 1); or 16.
+ */
 uint64_t ngt1_session_lacks(const uint64_t numbers[17], const uint32_t known[1344], uint32_t pgn);
 
 /*
- * A message of the gateway: use ngt1_session_hear below, which calls these.
+ * A message of the gateway: use ngt1_session_hear below, which calls these. room is the length of the output.
  *   ignores  true: the message would change nothing; false says nothing
  *   add      true: it was PGNs more of a Format 1 list, and all is done; false: nothing was done
  *   message  in every phase but the reading of Format 2, part in that phase; the other answers 100 and does nothing

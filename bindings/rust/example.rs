@@ -1,6 +1,8 @@
 //! Encodes A1 41, feeds the frame and a damaged copy of it in two pieces, and prints the events; then reads a record and a Format 2
 //! list, and has two gateways transmit PGN 126983. Exit status 1: not as expected.
+mod check;
 mod ngt1;
+use check::{ended, expect, reply};
 use ngt1::{encode, record, Decoder, Event, Lacks, Parts, Record, Session, Written, MAX_FRAME, MAX_LISTED, MAX_SENT};
 use std::process::ExitCode;
 
@@ -47,11 +49,6 @@ fn listed() -> Vec<u32> {
     out[..count].to_vec()
 }
 
-/// The payload of a reply with no error.
-fn reply(bem: u8, sequence: u8, data: &[u8]) -> Vec<u8> {
-    [&[bem, sequence, 14, 0, 1, 2, 3, 4, 0, 0, 0, 0], data].concat()
-}
-
 /// A start-up with a gateway that tells its list in one of the formats: it wants 126983, and the gateway saves it.
 fn starts_up(firmware: Option<u16>, list: &[Vec<u8>]) -> Result<Session, u8> {
     let mut out = [0u8; MAX_SENT];
@@ -59,27 +56,19 @@ fn starts_up(firmware: Option<u16>, list: &[Vec<u8>]) -> Result<Session, u8> {
     if let Some(version) = firmware {
         session.set_firmware(version)?;
     }
-    session.message(0, &reply(0x11, 1, &[2, 0]), &mut out)?;
+    session.message(0, &reply(0x11, 1, 0, &[2, 0]), &mut out)?;
     session.tick(2_000, &mut out)?;
     for part in list {
         session.message(2_001, part, &mut out)?;
     }
-    session.message(2_001, &reply(0x47, 1, &[0; 14]), &mut out)?;
-    session.message(2_001, &reply(0x01, 1, &[]), &mut out)?;
-    session.message(2_001, &reply(0x4B, 1, &[]), &mut out)?;
+    session.message(2_001, &reply(0x47, 1, 0, &[0; 14]), &mut out)?;
+    session.message(2_001, &reply(0x01, 1, 0, &[]), &mut out)?;
+    session.message(2_001, &reply(0x4B, 1, 0, &[]), &mut out)?;
     Ok(session)
 }
 
 fn main() -> ExitCode {
     let want = [0x10, 0x02, 0xA1, 0x01, 0x41, 0x1D, 0x10, 0x03];
-    let mut failed = false;
-    let mut expect = |ok: bool, what: &str| {
-        if !ok {
-            println!("not as expected: {what}");
-            failed = true;
-        }
-    };
-
     let mut out = [0u8; MAX_FRAME];
     expect(encode(0xA1, &[0x41], &mut out) == Ok(Written { count: 8, doubled: 0 }), "encode");
     expect(out[..8] == want && out[8..].iter().all(|b| *b == 0), "frame");
@@ -105,11 +94,11 @@ fn main() -> ExitCode {
     expect(record(0x93, &payload[..12]) == Err(10), "refusal 10");
     expect(listed() == [126993, 65281], "Format 2 list");
 
-    let first = [reply(0x49, 1, &[1, 0x11, 0xF0, 1, 0]), reply(0x49, 4, &[])];
+    let first = [reply(0x49, 1, 0, &[1, 0x11, 0xF0, 1, 0]), reply(0x49, 4, 0, &[])];
     let second = [
-        reply(0x40, 1, &[0, 0, 0x11, 0, 0, 0, 0, 2, 0, 2, 7, 0x07, 0xF0, 1, 9, 0x11, 0xF0, 1]),
-        reply(0x4F, 2, &[0, 3, 0x11, 0, 0, 1, 2, 0]),
-        reply(0x4F, 1, &[0, 2, 0x11, 0, 0, 1, 0, 1, 9, 6, 0, 0]),
+        reply(0x40, 1, 0, &[0, 0, 0x11, 0, 0, 0, 0, 2, 0, 2, 7, 0x07, 0xF0, 1, 9, 0x11, 0xF0, 1]),
+        reply(0x4F, 2, 0, &[0, 3, 0x11, 0, 0, 1, 2, 0]),
+        reply(0x4F, 1, 0, &[0, 2, 0x11, 0, 0, 1, 0, 1, 9, 6, 0, 0]),
     ];
     for (firmware, list, known) in [(None, &first[..], &[126993, 126983][..]), (Some(2690), &second, &[126993, 65281, 126983])] {
         let session = starts_up(firmware, list);
@@ -118,5 +107,5 @@ fn main() -> ExitCode {
         expect(session.is_ok_and(|s| s.lacks(126983) == Ok(Lacks::Nothing) && s.lacks(1) != Ok(Lacks::Nothing)), "lacks");
     }
     expect(Session::begin(&[0; 65]).is_err_and(|number| number == 11), "refusal 11");
-    ExitCode::from(failed as u8)
+    ended()
 }

@@ -95,6 +95,7 @@ unsafe extern "C" {
     fn ngt1_session_lacks(n: *const [u64; 17], known: *const [u32; 1344], pgn: u32) -> u64;
 }
 
+/// No message has a longer payload.
 pub const MAX_PAYLOAD: usize = 255;
 /// No frame is longer.
 pub const MAX_FRAME: usize = 520;
@@ -120,14 +121,21 @@ pub fn encode(cmd: u8, payload: &[u8], out: &mut [u8]) -> Result<Written, u8> {
     }
 }
 
+/// What the bytes gave.
 #[derive(Clone, Copy, Debug, PartialEq, Eq)]
 pub enum Event {
     Nothing,
+    /// A message with so many bytes of payload: see `Decoder::payload`.
     Message { command: u8, len: usize },
+    /// 1: fewer than 3 bytes in the frame.
     ShortMessage,
+    /// 2: its bytes do not add up to 0 modulo 256.
     BadChecksum,
+    /// 3: its payload has another length than it declares.
     LengthMismatch { declared: u8, actual: usize },
+    /// 4: this byte after a DLE in the frame.
     BadEscape(u8),
+    /// 5: more than 1,024 bytes in the frame.
     TooLong,
     /// 16 or 7; a `Decoder` of this module never gives one.
     Refused(u8),
@@ -235,7 +243,7 @@ pub fn record(command: u8, payload: &[u8]) -> Result<Record<'_>, u8> {
     }
 }
 
-#[derive(Clone, Copy)]
+#[derive(Clone, Copy, PartialEq, Eq)]
 #[repr(C)]
 struct SupportedEntry {
     filled: bool,
@@ -243,14 +251,14 @@ struct SupportedEntry {
     pgn: u32,
 }
 
-#[derive(Clone, Copy)]
+#[derive(Clone, Copy, PartialEq, Eq)]
 #[repr(C)]
 struct EnabledEntry {
     filled: bool,
     index: u8,
 }
 
-#[derive(Clone, Copy)]
+#[derive(Clone, Copy, PartialEq, Eq)]
 #[repr(C)]
 struct SizedParts<T> {
     sized: bool,
@@ -258,21 +266,21 @@ struct SizedParts<T> {
     entries: [T; 255],
 }
 
-#[derive(Clone, Copy)]
+#[derive(Clone, Copy, PartialEq, Eq)]
 #[repr(C)]
 struct Proprietary {
     told: bool,
     list: List512,
 }
 
-#[derive(Clone, Copy)]
+#[derive(Clone, Copy, PartialEq, Eq)]
 #[repr(C)]
 struct List512 {
     pgns: [u32; 512],
     n: usize,
 }
 
-#[derive(Clone, Copy)]
+#[derive(Clone, Copy, PartialEq, Eq)]
 #[repr(C)]
 struct F2List {
     supported: SizedParts<SupportedEntry>,
@@ -362,22 +370,25 @@ pub enum Lacks {
     Partial,
 }
 
-/// No call writes more.
+/// A session's output, at least, whatever is to be sent. No call writes more.
 pub const MAX_SENT: usize = 32;
 
 /// A start-up session: has the gateway transmit the PGNs that are wanted. Times are milliseconds of a clock that is not set back.
+/// Give it the gateway's messages and ticks, and send what they write, until it is done.
 /// A call changes the session where it stands. Refusals change nothing: 16 a state that is not well formed, 13 a time over
 /// 18446744073709541615, 6 a message over 255 bytes, 7 an output under 32, 14 a Format 1 list that would pass 1,024.
+#[derive(Clone, PartialEq, Eq)]
 pub struct Session {
-    numbers: [u64; 17],
-    wanted: [u32; 64],
-    owed: [u32; 64],
-    fresh: [u32; 64],
-    list: [u32; 1024],
-    known: [u32; 1344],
-    saved: [u32; 256],
-    present: [u32; 256],
-    refused: [u32; 256],
+    // What they are is told in bindings/c/ngt1.h. They are open to the crate for bindings/rust/numbers.rs: a program writes none of them.
+    pub(crate) numbers: [u64; 17],
+    pub(crate) wanted: [u32; 64],
+    pub(crate) owed: [u32; 64],
+    pub(crate) fresh: [u32; 64],
+    pub(crate) list: [u32; 1024],
+    pub(crate) known: [u32; 1344],
+    pub(crate) saved: [u32; 256],
+    pub(crate) present: [u32; 256],
+    pub(crate) refused: [u32; 256],
     parts: F2List,
 }
 
@@ -424,43 +435,47 @@ impl Session {
         self.begin_again(want)
     }
 
-    /// The session from its start, as after a restart of the gateway: what is wanted and learnt is kept. Refusals: 16, 12.
+    /// The session from its start, as after a restart of the gateway: what is wanted and learnt is kept; no list is known, and the
+    /// firmware is not told. Refusals: 16, 12.
     pub fn restart(&mut self) -> Result<(), u8> {
         done(unsafe { ngt1_session_restart(&mut self.numbers) })
     }
 
-    /// The gateway's firmware version times 1000, from its product information. Refusal: 16.
+    /// The gateway's firmware version times 1000, from its product information. Where 2500 or more is told before the read starts,
+    /// Format 2 is read first; else Format 1. Refusal: 16.
     pub fn set_firmware(&mut self, version: u16) -> Result<(), u8> {
         done(unsafe { ngt1_session_firmware(&mut self.numbers, version) })
     }
 
-    /// The gateway has no list to set. Refusal: 16.
+    /// The gateway has no list to set: the session is done, and no list is known. Refusal: 16.
     pub fn abandon(&mut self) -> Result<(), u8> {
         done(unsafe { ngt1_session_abandon(&mut self.numbers) })
     }
 
-    /// The passing of time.
+    /// The passing of time. Refusals: 16, 13, 7.
     #[inline]
     pub fn tick(&mut self, time: u64, out: &mut [u8]) -> Sent {
         let a = unsafe { ngt1_session_tick(&mut self.numbers, time, out.as_mut_ptr(), out.len()) };
         sent(a.number, a.count)
     }
 
-    /// The payload of a message A0 of the gateway.
+    /// The payload of a message A0 of the gateway. Refusals: 16, 13, 6, 7, 14.
     #[inline]
     pub fn message(&mut self, time: u64, payload: &[u8], out: &mut [u8]) -> Sent {
-        let (bytes, len) = (payload.as_ptr(), payload.len());
-        let ready = unsafe {
-            self.numbers[PHASE] == READING_F1
-                && ngt1_session_add(&mut self.numbers, &mut self.list, time, bytes, len, out.len())
-                || ngt1_session_ignores(&self.numbers, time, bytes, len, out.len())
-        };
+        let ready = self.numbers[PHASE] == READING_F1 && self.add(time, payload, out.len())
+            || unsafe { ngt1_session_ignores(&self.numbers, time, payload.as_ptr(), payload.len(), out.len()) };
         if ready { Ok(0) } else { self.hear(time, payload, out) }
+    }
+
+    /// True: it was PGNs more of a Format 1 list, and all is done; false: nothing was done. `room` is the length of the output.
+    #[inline]
+    pub(crate) fn add(&mut self, time: u64, payload: &[u8], room: usize) -> bool {
+        unsafe { ngt1_session_add(&mut self.numbers, &mut self.list, time, payload.as_ptr(), payload.len(), room) }
     }
 
     /// A message that may change something. Apart from the above, since its frame holds parts of a Format 2 read.
     #[inline(never)]
-    fn hear(&mut self, time: u64, payload: &[u8], out: &mut [u8]) -> Sent {
+    pub(crate) fn hear(&mut self, time: u64, payload: &[u8], out: &mut [u8]) -> Sent {
         let (bytes, len) = (payload.as_ptr(), payload.len());
         if self.numbers[PHASE] == READING_F2 {
             let a = unsafe {
@@ -533,7 +548,7 @@ impl Session {
         self.numbers[LIST] = 0;
     }
 
-    /// The gateway's list, with what was enabled since; empty where none is known.
+    /// The gateway's list, with what is present or was enabled since; empty where none is known.
     pub fn known(&self) -> &[u32] {
         self.held(&self.known, KNOWN)
     }
