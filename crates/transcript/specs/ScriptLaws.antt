@@ -12,19 +12,26 @@ use lib.ListN.{length, drop, getD, drop-of-length-le}
 use lib.Seq.{drop-cons}
 use Rattle.field.specs.Fields.{field}
 use Rattle.field.specs.Pick.{pick}
-use Rattle.transcript.specs.Script.{mixed, sumFrom, callSize}
+use Rattle.transcript.specs.Script.{mixed, folded, sumFrom, callSize}
 
 -- a multiple of the modulus more
 past : (x q r : ℕ) → x ≡ 2147483647 * q + r → x % 2147483647 ≡ r % 2147483647
 past x q r e = ap (λ (n : ℕ). n % 2147483647) e ∙ mul-add-mod-self-left 2147483647 q r
 
 -- a step of the sum over t that is not brought below the modulus first: 2^31 counts as 1
-pub mixed-folded : (t b x : ℕ) → x ≡ t * 65599 + b + 1 → (x % 2147483648 + x / 2147483648) % 2147483647 ≡ mixed (t % 2147483647) b
-mixed-folded t b x e =
+pub folded-mixed : (t b : ℕ) → folded t b % 2147483647 ≡ mixed (t % 2147483647) b
+unfolding folded
+folded-mixed t b =
+    let x = t * 65599 + b + 1 in
     let f : x ≡ 2147483647 * (x / 2147483648) + (x % 2147483648 + x / 2147483648) = omega arith in
     let g : x ≡ 2147483647 * (65599 * (t / 2147483647)) + (t % 2147483647 * 65599 + b + 1) = omega arith in
     sym (past x (x / 2147483648) (x % 2147483648 + x / 2147483648) f)
     ∙ past x (65599 * (t / 2147483647)) (t % 2147483647 * 65599 + b + 1) g
+
+-- and it stays in 32 bits
+pub folded-fits : (t b : ℕ) → t < 4294967296 → b < 256 → folded t b < 4294967296
+unfolding folded
+folded-fits t b h g = omega arith
 
 -- the sum, by the place in the bytes: one byte more, and the end
 pub sum-next : (k t u : ℕ) (s : List ℕ) (i : ℕ) → i < length s → k ≡ sumFrom t (drop i s) → u ≡ mixed t (getD s i 0)

@@ -7,7 +7,7 @@ ghost use mathlib.Core.Path.{_≡_};
 ghost use lib.ListN.{drop, replicate, take};
 ghost use Rattle.field.specs.Fields.{bytesOf};
 ghost use Rattle.transcript.specs.Log.{log, put, puts, headOf, sized};
-ghost use Rattle.transcript.specs.Script.{mixed, sumOf, callSize};
+ghost use Rattle.transcript.specs.Script.{folded, sumOf, callSize};
 use field::byte_at;
 use field::le16;
 use field::le32;
@@ -127,7 +127,7 @@ fn long(b: u8) -> u64
 // The sum after one byte more. Modulo 2^31 - 1 the bits above 31 count as low ones; folding them down is faster than dividing.
 fn mix(t: u64, b: u8) -> u64
     requires { ⌜ t < 4294967296 ⌝ }
-    ensures { λ r. ⌜ (r < 4294967296) × (r % 2147483647 ≡ mixed (t % 2147483647) b) ⌝ }
+    ensures { λ r. ⌜ r ≡ folded t b ⌝ }
 {
     let x = t * 65599 + long(b) + 1;
     x % 2147483648 + x / 2147483648

@@ -1,9 +1,8 @@
 -- `transcript::mix` meets its contract. Assumes nothing.
-use Prim.Native.Nat.{ℕ, _+_, _*_}
-use native.Mathlib.Omega.{arith}
+use Prim.Native.Nat.{ℕ, _+_, _*_, _%_, _/_}
 use mathlib.Core.Path.{ap}
 use borrow.Author.Needs.{needs}
-use Rattle.transcript.specs.ScriptLaws.{mixed-folded}
+use Rattle.transcript.specs.Script.{folded}
 use Rattle.transcript.proofs.mix.Statement.{statement}
 use Rattle.transcript.proofs.mix.Tie as tie
 
@@ -23,10 +22,10 @@ add-result : tie.Need-add-result
 add-result c = search needs
 
 returns : tie.Need-returns
+unfolding folded
 returns c =
     let t = c .before .args .t in
-    let e = c .long .ensures in
-    (omega arith, mixed-folded t (c .before .args .b) (t * 65599 + c .long .result + 1) (ap (λ (y : ℕ). t * 65599 + y + 1) e))
+    ap (λ (y : ℕ). (t * 65599 + y + 1) % 2147483648 + (t * 65599 + y + 1) / 2147483648) (c .long .ensures)
 
 pub mix-spec : {M : Type 1} → statement M
 mix-spec = tie.close (tie.spec mul-x long-requires add-x add-x-2 add-result returns)

@@ -1,10 +1,11 @@
 -- `transcript::sum` meets its contract. Assumes nothing.
-use Prim.Native.Nat.{_≤_, _<_, _-_, _%_}
-use mathlib.Core.Path.{_≡_}
+use Prim.Native.Nat.{ℕ, _≤_, _<_, _-_, _%_}
+use native.Mathlib.Omega.{arith}
+use mathlib.Core.Path.{_≡_, ap, _∙_}
 use borrow.Author.Needs.{needs}
-use lib.ListN.{length, drop}
+use lib.ListN.{length, drop, getD}
 use Rattle.transcript.specs.Script.{sumFrom}
-use Rattle.transcript.specs.ScriptLaws.{sum-next, sum-end}
+use Rattle.transcript.specs.ScriptLaws.{folded-mixed, folded-fits, sum-next, sum-end}
 use Rattle.transcript.proofs.sum.Statement.{statement}
 use Rattle.transcript.proofs.sum.Tie as tie
 
@@ -33,7 +34,13 @@ loop-again : tie.Need-loop-again Inv-loop μ-loop
 loop-again c =
     let l = c .before .before .before in
     let s = l .before .before .args .s .now in
-    (search needs, sum-next _ (l .loop .t % 2147483647) (c .mix .result % 2147483647) s (l .loop .i) (search needs) (l .loop .inv .1) (c .mix .ensures .1), c .mix .ensures .0)
+    let t = l .loop .t in
+    let b = getD s (l .loop .i) 0 in
+    let e = c .mix .ensures in (
+      search needs,
+      sum-next _ (t % 2147483647) (c .mix .result % 2147483647) s (l .loop .i) (search needs) (l .loop .inv .1) (ap (λ (x : ℕ). x % 2147483647) e ∙ folded-mixed t b),
+      omega (arith, e, folded-fits t b (l .loop .inv .2) (c .before .shared-slice-known2 .given (l .loop .i) .fits)),
+    )
 
 cast-result : tie.Need-cast-result Inv-loop μ-loop
 cast-result c = search needs
