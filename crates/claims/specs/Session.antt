@@ -14,9 +14,9 @@ use Rattle.tx_list.specs.Views.{has}
 use Rattle.tx_list.specs.Session.{Record, Known}
 use Rattle.tx_list.specs.Live.{Gateway, startUp}
 use Rattle.pgns.specs.Turns.{map-same}
-use Rattle.transmits.specs.Transmits.{transmitsOf, isTransmitted}
+use Rattle.transmits.specs.Transmits.{pendingIn, transmitsOf, isTransmitted, isDropped}
 use Rattle.transmits.specs.TransmitsLaws as TransmitsLaws
-use mathlib.Core.Bool.{true, false}
+use mathlib.Core.Bool.{Bool, true, false, not, _&&_, _||_}
 use mathlib.Core.Path.{_≡_, ap, _∙_}
 use mathlib.Core.List.{List}
 use Prim.Native.Nat.{ℕ}
@@ -50,12 +50,27 @@ tilt-older = older-tilts
 -- and what is told of it then (`transmits::will_transmit`, the program startup): every wanted PGN that was not refused before will be transmitted, where what the session
 -- enabled itself (fresh) is saved
 pub transmitted :
-    (w : List ℕ) (old : Record ℕ) (g : Gateway) (last : Sync) (bytes : List ℕ) (fresh : List ℕ) (p : ℕ)
+    (w : List ℕ) (old : Record ℕ) (g : Gateway) (last : Sync) (bytes : List ℕ) (done : Bool) (fresh owed : List ℕ) (p : ℕ)
     → StartedUp w old g last bytes
     → (has p fresh ≡ true → has p (heldBy last .rec .saved) ≡ true)
     → has p w ≡ true
     → has p (old .refused) ≡ false
-    → isTransmitted (transmitsOf (heldBy last .rec) fresh (heldBy last .known) p) ≡ true
-transmitted w old g last bytes fresh p u h a b =
-    TransmitsLaws.transmitted (heldBy last .rec) fresh (heldBy last .known) p h (ap (λ (k : Known). k .isRead) (u .started .known))
+    → isTransmitted (transmitsOf done (heldBy last .rec) fresh owed (heldBy last .known) p) ≡ true
+transmitted w old g last bytes done fresh owed p u h a b =
+    TransmitsLaws.transmitted done (heldBy last .rec) fresh owed (heldBy last .known) p h (ap (λ (k : Known). k .isRead) (u .started .known))
     (u .started .served p a (ap (has p) (map-same (old .refused)) ∙ b))
+
+-- whatever the session: a yes is told only of a PGN on a list that this session read, and saved if the session enabled it itself
+pub yes-rests :
+    (done : Bool) (r : Record ℕ) (fresh owed : List ℕ) (kn : Known) (p : ℕ)
+    → isTransmitted (transmitsOf done r fresh owed kn p) ≡ true
+    → (kn .isRead ≡ true) × (has p (kn .pgns) ≡ true) × (has p fresh ≡ true → has p (r .saved) ≡ true)
+yes-rests = TransmitsLaws.yes-rests
+
+-- and a no only of one that the list does not have, that was refused, or that a whole list lacks and of which no command is pending
+pub no-rests :
+    (done : Bool) (r : Record ℕ) (fresh owed : List ℕ) (kn : Known) (p : ℕ)
+    → isDropped (transmitsOf done r fresh owed kn p) ≡ true
+    → ((kn .isRead && has p (kn .pgns)) ≡ false)
+    × ((has p (r .refused) || (kn .isRead && (kn .isWhole && not (has p (pendingIn done owed))))) ≡ true)
+no-rests = TransmitsLaws.no-rests

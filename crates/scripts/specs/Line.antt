@@ -15,6 +15,8 @@ use Rattle.field.specs.Pick.{pick}
 use Rattle.firmware.specs.Version.{isDigit, allDigits, decimal}
 use Rattle.scripts.specs.declared.Line.{Line}
 use Rattle.scripts.specs.declared.Line.the-variants.{Skipped, Tick, Wire, Firmware, Bad}
+use Rattle.scripts.specs.declared.words.Run.{Run}
+use Rattle.scripts.specs.declared.words.Run.the-variants.{Blanks, Word, OneLine}
 use Rattle.scripts.specs.declared.Decimal.{Decimal}
 use Rattle.scripts.specs.declared.Decimal.the-variants.{Value, Nothing}
 
@@ -30,6 +32,12 @@ inWord b = not (isBlank b)
 -- a line feed ends a line
 abbrev pub inLine : ℕ → Bool
 inLine b = not (eqb b 10)
+
+-- the test of each kind of run
+abbrev pub isIn : Run → ℕ → Bool
+isIn Blanks b = isBlank b
+isIn Word b = inWord b
+isIn OneLine b = inLine b
 
 -- how many bytes at the front pass the test
 unfoldable pub lead : (ℕ → Bool) → List ℕ → ℕ

@@ -1,6 +1,7 @@
 // The words of a line, which blanks set apart.
 ghost use mathlib.Core.Path.{_≡_};
-ghost use Rattle.scripts.specs.Line.{isBlank, lead, inWord, afterBlanks, wordOf, restOf, lineEnd, same};
+ghost use lib.ListN.{drop};
+ghost use Rattle.scripts.specs.Line.{isBlank, isIn, lead, afterBlanks, wordOf, restOf, lineEnd, same};
 
 const LINE_FEED: u8 = 10;
 
@@ -10,27 +11,30 @@ pub(crate) fn is_blank(b: u8) -> bool
     (b == b' ') | ((b == b'\t') | (b == b'\r'))
 }
 
-// How many blanks are at the front.
-fn blanks(s: &[u8]) -> usize
-    ensures { λ r. ⌜ r ≡ lead isBlank (now (s .entry)) ⌝ }
-{
-    let mut i: usize = 0;
-    while i < s.len() {
-        if !is_blank(s[i]) {
-            return i;
-        }
-        i += 1;
-    }
-    i
+// A run of bytes: blanks, a word, a line without its line feed.
+enum Run {
+    Blanks,
+    Word,
+    OneLine,
 }
 
-// The length of the word at the front.
-fn word_end(s: &[u8]) -> usize
-    ensures { λ r. ⌜ r ≡ lead inWord (now (s .entry)) ⌝ }
+fn is_in(run: Run, b: u8) -> bool
+    ensures { λ r. ⌜ r ≡ isIn run b ⌝ }
+{
+    match run {
+        Run::Blanks => is_blank(b),
+        Run::Word => !is_blank(b),
+        Run::OneLine => b != LINE_FEED,
+    }
+}
+
+// The length of the run at the front.
+fn run_end(run: Run, s: &[u8]) -> usize
+    ensures { λ r. ⌜ r ≡ lead (isIn run) (now (s .entry)) ⌝ }
 {
     let mut i: usize = 0;
     while i < s.len() {
-        if is_blank(s[i]) {
+        if !is_in(run, s[i]) {
             return i;
         }
         i += 1;
@@ -42,27 +46,27 @@ fn word_end(s: &[u8]) -> usize
 pub fn line_end(s: &[u8]) -> usize
     ensures { λ r. ⌜ r ≡ lineEnd (now (s .entry)) ⌝ }
 {
-    let mut i: usize = 0;
-    while i < s.len() {
-        if s[i] == LINE_FEED {
-            return i;
-        }
-        i += 1;
-    }
-    i
+    run_end(Run::OneLine, s)
+}
+
+// From the end of the run at the front on.
+fn skip(run: Run, s: &[u8]) -> &[u8]
+    ensures { λ r. ⌜ now r ≡ drop (lead (isIn run) (now (s .entry))) (now (s .entry)) ⌝ }
+{
+    let n = run_end(run, s);
+    &s[n..]
 }
 
 pub(crate) fn after_blanks(s: &[u8]) -> &[u8]
     ensures { λ r. ⌜ now r ≡ afterBlanks (now (s .entry)) ⌝ }
 {
-    let n = blanks(s);
-    &s[n..]
+    skip(Run::Blanks, s)
 }
 
 pub(crate) fn word(s: &[u8]) -> &[u8]
     ensures { λ r. ⌜ now r ≡ wordOf (now (s .entry)) ⌝ }
 {
-    let n = word_end(s);
+    let n = run_end(Run::Word, s);
     &s[..n]
 }
 
@@ -70,8 +74,7 @@ pub(crate) fn word(s: &[u8]) -> &[u8]
 pub(crate) fn rest(s: &[u8]) -> &[u8]
     ensures { λ r. ⌜ now r ≡ restOf (now (s .entry)) ⌝ }
 {
-    let n = word_end(s);
-    after_blanks(&s[n..])
+    after_blanks(skip(Run::Word, s))
 }
 
 pub(crate) fn is_same(a: &[u8], b: &[u8]) -> bool

@@ -4,11 +4,10 @@ use crate::text::put_count;
 use crate::text::put_line;
 use session::Held;
 use session::TxListSync;
-use tx_list::State;
 
 // The numbers of a session that its lines tell of.
 pub(crate) struct Seen {
-    pub phase: u8,
+    pub phase: u64,
     pub deadline: u64,
     pub read: bool,
     pub complete: bool,
@@ -16,37 +15,28 @@ pub(crate) struct Seen {
     pub fresh: usize,
     pub present: usize,
     pub refused: usize,
-    pub saved: usize,
     // The enable command that is not answered yet.
     pub asked: u32,
 }
 
-pub(crate) const AWAIT: u8 = 0;
+// The phases, as `numbers` numbers them.
+pub(crate) const AWAIT: u64 = 0;
 
-pub(crate) const DELAY: u8 = 1;
+pub(crate) const DELAY: u64 = 1;
 
-pub(crate) const ENABLING: u8 = 4;
+pub(crate) const FORMAT_1: u64 = 2;
 
-pub(crate) const COMMITTING: u8 = 5;
+pub(crate) const FORMAT_2: u64 = 3;
 
-pub(crate) const ACTIVATING: u8 = 6;
+pub(crate) const ENABLING: u64 = 4;
 
-pub(crate) const DONE: u8 = 7;
+pub(crate) const COMMITTING: u64 = 5;
 
-pub(crate) fn phase_of(state: State) -> u8 {
-    match state {
-        State::AwaitStartup => AWAIT,
-        State::ReadAt => DELAY,
-        State::Reading(_) => 2,
-        State::ReadingF2(_) => 3,
-        State::Enabling => ENABLING,
-        State::Committing => COMMITTING,
-        State::Activating => ACTIVATING,
-        State::Done => DONE,
-    }
-}
+pub(crate) const ACTIVATING: u64 = 6;
 
-fn seen_held(phase: u8, h: Held) -> Seen {
+pub(crate) const DONE: u64 = 7;
+
+fn seen_held(phase: u64, h: Held) -> Seen {
     let owed = h.owed;
     Seen {
         phase,
@@ -57,14 +47,13 @@ fn seen_held(phase: u8, h: Held) -> Seen {
         fresh: h.fresh.n,
         present: h.learned.present.n,
         refused: h.learned.refused.n,
-        saved: h.learned.saved.n,
         asked: owed.pgns[0],
     }
 }
 
 pub(crate) fn seen_of(sync: TxListSync) -> Seen {
     let st = sync.state;
-    seen_held(phase_of(st), sync.held)
+    seen_held(numbers::phase_of(st), sync.held)
 }
 
 // A message or a tick: its time, 0 or the number of its refusal, and the session before and after it.
@@ -76,9 +65,17 @@ pub(crate) struct Change {
     pub new: Seen,
 }
 
+// Words, where the call led to this phase.
+fn put_if(out: &mut [u8], n: usize, c: Change, phase: u64, words: &[u8]) -> usize {
+    if c.new.phase != phase {
+        return n;
+    }
+    put_line(out, n, c.time, words)
+}
+
 // The gateway told its mode.
 fn put_mode(out: &mut [u8], n: usize, c: Change) -> usize {
-    if (c.old.phase != AWAIT) | (c.new.phase != DELAY) {
+    if c.new.phase != DELAY {
         return n;
     }
     put_count(
@@ -103,6 +100,12 @@ fn put_read(out: &mut [u8], n: usize, c: Change) -> usize {
     put_count(out, n, c.time, b"list read in Format 1: ", known, b" PGNs")
 }
 
+// A part of the list in Format 2, or an error.
+fn put_part(out: &mut [u8], n: usize, c: Change) -> usize {
+    let a = put_if(out, n, c, FORMAT_1, b"answer: Format 2 refused");
+    put_read(out, a, c)
+}
+
 // An enable command was answered.
 fn put_answer(out: &mut [u8], n: usize, c: Change) -> usize {
     let pgn = c.old.asked as u64;
@@ -118,24 +121,15 @@ fn put_answer(out: &mut [u8], n: usize, c: Change) -> usize {
     n
 }
 
-// Commit or activate was answered.
-fn put_saving(out: &mut [u8], n: usize, c: Change) -> usize {
-    if c.new.phase == ACTIVATING {
-        return put_line(out, n, c.time, b"answer: commit");
-    }
-    if c.old.saved < c.new.saved {
-        return put_line(out, n, c.time, b"answer: activate");
-    }
-    n
-}
-
 // What was heard, by the phase that it came in.
 fn put_heard(out: &mut [u8], n: usize, c: Change) -> usize {
     let phase = c.old.phase;
     match phase {
         AWAIT => put_mode(out, n, c),
+        FORMAT_2 => put_part(out, n, c),
         ENABLING => put_answer(out, n, c),
-        COMMITTING | ACTIVATING => put_saving(out, n, c),
+        COMMITTING => put_if(out, n, c, ACTIVATING, b"answer: commit"),
+        ACTIVATING => put_if(out, n, c, DONE, b"answer: activate"),
         _ => put_read(out, n, c),
     }
 }
@@ -152,10 +146,10 @@ fn put_late(out: &mut [u8], n: usize, c: Change, sent: usize) -> usize {
 }
 
 fn put_done(out: &mut [u8], n: usize, c: Change) -> usize {
-    if (c.old.phase == DONE) | (c.new.phase != DONE) {
+    if c.old.phase == DONE {
         return n;
     }
-    put_line(out, n, c.time, b"done")
+    put_if(out, n, c, DONE, b"done")
 }
 
 // Why a call was refused: nothing has changed.

@@ -1,5 +1,5 @@
 // The start-up of a gateway played through: `startup PGN..` reads on standard input what the gateway says and when, feeds the decoder and
-// the session, and tells what happens, then for each wanted PGN whether the gateway will transmit it, and the record (README.md, "Play a start-up through").
+// the session, and tells what happens, then for each wanted PGN whether the gateway will transmit it, and the record (samples/README.md).
 // What the calls do is proved in `scripts`, `framing`, `session` and `transmits`; here lines are read, calls are made and told.
 // Refusals of the session are told with their numbers (11, 13, 14); a bad line with its own number and what is wrong with it, and the run stops there.
 use end::tell_end;
@@ -99,7 +99,7 @@ fn tell_over(t: Turn, f: Filled, text: &mut [u8]) -> bool {
     false
 }
 
-// Plays the lines of the input that are whole.
+// Plays the lines of the input that are whole, and at its end the last one, which may have no line feed.
 fn step(
     turn: Turn,
     f: Filled,
@@ -108,7 +108,7 @@ fn step(
     buf: &mut [u8],
     text: &mut [u8],
 ) -> Turn {
-    let is_last = (f.got <= 0) & !f.is_full;
+    let is_last = (f.got == 0) & !f.is_full;
     let mut t = play_lines(turn, first(input, f.end), is_last, bytes, buf, text);
     let over = tell_over(t, f, text);
     t.end = f.end;

@@ -3,6 +3,7 @@
 use crate::change::AWAIT;
 use crate::change::Change;
 use crate::change::DONE;
+use crate::change::Seen;
 use crate::change::put_change;
 use crate::change::seen_of;
 use crate::text::put_count;
@@ -59,28 +60,16 @@ pub(crate) fn new(sync: TxListSync) -> Play {
 
 // The start-up with another session.
 fn with_sync(play: Play, sync: TxListSync) -> Play {
-    let decoder = play.decoder;
-    Play {
-        sync,
-        decoder,
-        time: play.time,
-        messages: play.messages,
-        others: play.others,
-        errors: play.errors,
-    }
+    let mut p = play;
+    p.sync = sync;
+    p
 }
 
 // The start-up with another decoder.
 fn with_decoder(play: Play, decoder: Decoder) -> Play {
-    let sync = play.sync;
-    Play {
-        sync,
-        decoder,
-        time: play.time,
-        messages: play.messages,
-        others: play.others,
-        errors: play.errors,
-    }
+    let mut p = play;
+    p.decoder = decoder;
+    p
 }
 
 fn tell(text: &[u8], n: usize) {
@@ -189,18 +178,19 @@ pub(crate) fn wire(play: Play, time: u64, bytes: &[u8], buf: &mut [u8], text: &m
     p
 }
 
-fn is_waiting(phase: u8) -> bool {
-    (phase != AWAIT) & (phase != DONE)
+// Whether the session waits for a time that is still to come.
+fn is_waiting(s: Seen, time: u64) -> bool {
+    (s.phase != AWAIT) & (s.phase != DONE) & (time < s.deadline)
 }
 
 // The line of a clock that went back, with the due time that the session keeps.
-fn put_back(out: &mut [u8], time: u64, by: u64, phase: u8, deadline: u64) -> usize {
+fn put_back(out: &mut [u8], time: u64, by: u64, s: Seen) -> usize {
     let a = put_time(out, 0, time);
     let b = put_number(out, a, b"the clock went back ", by, b" ms");
-    if !is_waiting(phase) {
+    if !is_waiting(s, time) {
         return put(out, b, b'\n');
     }
-    put_number(out, b, b": the session waits until ", deadline, b"\n")
+    put_number(out, b, b": the session waits until ", s.deadline, b"\n")
 }
 
 // The time of a line, which may be before that of the line before it.
@@ -209,8 +199,7 @@ pub(crate) fn clock(play: Play, time: u64, text: &mut [u8]) -> Play {
     let mut p = play;
     p.time = time;
     if time < last {
-        let s = seen_of(p.sync);
-        let n = put_back(text, time, last - time, s.phase, s.deadline);
+        let n = put_back(text, time, last - time, seen_of(p.sync));
         tell(text, n);
     }
     p

@@ -1,49 +1,23 @@
 -- `transmits::will_transmit` meets its contract. Assumes nothing.
-use mathlib.Core.Path.{_∙_}
+use mathlib.Core.Path.{ap, _∙_}
 use borrow.Author.Needs.{needs}
-use Rattle.transmits.specs.Transmits.{recordIn, listIn, knownIn}
-use Rattle.transmits.specs.TransmitsLaws.{transmits-is}
+use Rattle.phases.specs.declared.IsDone.{IsDone}
+use Rattle.transmits.specs.Transmits.{recordIn, listIn, knownIn, transmitsOf}
 use Rattle.transmits.proofs.will_transmit.Statement.{statement}
 use Rattle.transmits.proofs.will_transmit.Tie as tie
 
-has-requires : tie.Need-has-requires
-has-requires c κs = search needs
+is-done-requires : tie.Need-is-done-requires
+is-done-requires c κs = search needs
 
-has-requires-2 : tie.Need-has-requires-2
-has-requires-2 c κs = search needs
-
-has-requires-3 : tie.Need-has-requires-3
-has-requires-3 c κs = search needs
-
-has-requires-4 : tie.Need-has-requires-4
-has-requires-4 c κs = search needs
-
-has-requires-5 : tie.Need-has-requires-5
-has-requires-5 c κs = search needs
-
-answer-requires : tie.Need-answer-requires
-answer-requires c κs = search needs
+told-requires : tie.Need-told-requires
+told-requires c κs = search needs
 
 returns : tie.Need-returns
 returns c =
-    let h5 = c .before in
-    let h4 = h5 .before .before .before .before in
-    let h3 = h4 .before .before .before .before in
-    let h2 = h3 .before .before .before .before in
-    let h1 = h2 .before .before .before .before in
-    let a = h1 .before .before .before .before .args in
-    c .answer .ensures
-    ∙ transmits-is (recordIn (a .t1)) (listIn (a .t2)) (knownIn (a .t3)) (a .pgn) _ _ _ _ _ (h1 .has .ensures) (h2 .has2 .ensures) (h3 .has3 .ensures)
-    (h4 .has4 .ensures) (h5 .has5 .ensures)
+    let a = c .before .before .args in
+    let h = a .sync .held in
+    c .told .ensures
+    ∙ ap (λ (d : IsDone). transmitsOf (d .done) (recordIn (h .learned)) (listIn (h .fresh)) (listIn (h .owed)) (knownIn (h .known)) (a .pgn)) (c .before .is-done .ensures)
 
 pub will-transmit-spec : {M : Type 1} → statement M
-will-transmit-spec =
-    tie.close
-    (tie.spec
-    has-requires
-    has-requires-2
-    has-requires-3
-    has-requires-4
-    has-requires-5
-    answer-requires
-    returns)
+will-transmit-spec = tie.close (tie.spec is-done-requires told-requires returns)

@@ -9,19 +9,19 @@ use Rattle.scripts.specs.PartLaws.{lead-le}
 use Rattle.scripts.proofs.words.word.Statement.{statement}
 use Rattle.scripts.proofs.words.word.Tie as tie
 
-word-end-requires : tie.Need-word-end-requires
-word-end-requires c κs = search needs
+run-end-requires : tie.Need-run-end-requires
+run-end-requires c κs = search needs
 
 slice-aggregate-result : tie.Need-slice-aggregate-result
 slice-aggregate-result c =
     let b = c .before in
     let s = b .before .before .args .s .now in
-    sym (length-take-le (b .word-end .result) s (omega (arith, b .word-end .ensures, lead-le inWord s)))
+    sym (length-take-le (b .run-end .result) s (omega (arith, b .run-end .ensures, lead-le inWord s)))
 
 returns : tie.Need-returns
 returns c =
     let b = c .before in
-    ap (λ n. take n (b .before .before .args .s .now)) (b .word-end .ensures)
+    ap (λ n. take n (b .before .before .args .s .now)) (b .run-end .ensures)
 
 pub word-spec : {M : Type 1} → statement M
-word-spec = tie.close (tie.spec word-end-requires slice-aggregate-result returns)
+word-spec = tie.close (tie.spec run-end-requires slice-aggregate-result returns)

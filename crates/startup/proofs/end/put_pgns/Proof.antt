@@ -7,19 +7,13 @@ use Rattle.startup.proofs.end.put_pgns.Statement.{statement}
 use Rattle.startup.proofs.end.put_pgns.Tie as tie
 
 abbrev Inv-loop : tie.InvT-loop
-Inv-loop out₀ n list count next₀ i₀ out next i = length out ≡ length out₀
+Inv-loop out₀ n list next₀ i₀ out next i = length out ≡ length out₀
 
 abbrev μ-loop : tie.MeasureT-loop
-μ-loop out₀ n list count next₀ i₀ out next i = count - i
+μ-loop out₀ n list next₀ i₀ out next i = length list - i
 
 loop-holds : tie.Need-loop-holds Inv-loop μ-loop
 loop-holds c = search needs
-
-same-length : tie.Need-same-length Inv-loop μ-loop
-same-length c = search needs
-
-returns : tie.Need-returns Inv-loop μ-loop
-returns c = search needs
 
 mul-put-pgn : tie.Need-mul-put-pgn Inv-loop μ-loop
 mul-put-pgn c = search needs
@@ -39,11 +33,11 @@ loop-less c = search needs
 loop-again : tie.Need-loop-again Inv-loop μ-loop
 loop-again c = search needs
 
-same-length-2 : tie.Need-same-length-2 Inv-loop μ-loop
-same-length-2 c = search needs
+same-length : tie.Need-same-length Inv-loop μ-loop
+same-length c = search needs
 
-returns-2 : tie.Need-returns-2 Inv-loop μ-loop
-returns-2 c = search needs
+returns : tie.Need-returns Inv-loop μ-loop
+returns c = search needs
 
 pub put-pgns-spec : {M : Type 1} → statement M
 put-pgns-spec =
@@ -52,13 +46,11 @@ put-pgns-spec =
     Inv-loop
     μ-loop
     loop-holds
-    same-length
-    returns
     mul-put-pgn
     shared-slice-read-put-pgn
     put-pgn-requires
     add-i
     loop-less
     loop-again
-    same-length-2
-    returns-2)
+    same-length
+    returns)

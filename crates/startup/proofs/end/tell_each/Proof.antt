@@ -7,10 +7,10 @@ use Rattle.startup.proofs.end.tell_each.Statement.{statement}
 use Rattle.startup.proofs.end.tell_each.Tie as tie
 
 abbrev Inv-loop : tie.InvT-loop
-Inv-loop learned fresh known wanted text₀ i₀ text i = length text ≡ length text₀
+Inv-loop sync wanted text₀ i₀ text i = length text ≡ length text₀
 
 abbrev μ-loop : tie.MeasureT-loop
-μ-loop learned fresh known wanted text₀ i₀ text i = length wanted - i
+μ-loop sync wanted text₀ i₀ text i = length wanted - i
 
 loop-holds : tie.Need-loop-holds Inv-loop μ-loop
 loop-holds c = search needs
