@@ -1,6 +1,6 @@
 #!/usr/bin/env bash
-# Every name in back quotes in the documents below stands in the sources, so that a definition, theorem, function or edit that is renamed or
-# goes is renamed there too. Names of canboat's that the port does not have, and words of the documents' own, are listed here.
+# Every name in back quotes in the documents below stands in the sources, or in an example of theirs, so that a definition, theorem, function or
+# edit that is renamed or goes is renamed there too. Names of canboat's that the port does not have, and words of the documents' own, are listed here.
 set -u -o pipefail
 export LC_ALL=C
 cd "$(dirname "${BASH_SOURCE[0]}")/.." || exit 1
@@ -15,6 +15,7 @@ trap 'rm -f "$known"' EXIT
     find crates bindings oracle bench samples -name target -prune -o -type f \
         \( -name '*.rt' -o -name '*.antt' -o -name '*.rs' -o -name '*.c' -o -name '*.h' -o -name '*.sh' -o -name '*.md' \) -exec cat {} +
     find crates bindings docs samples -type f -printf '%f\n'
+    awk '/^ *```/ { code = !code } code' $documents
     ls crates
     printf '%s\n' $other
 } | grep -oP "$name" | sort -u >"$known"
