@@ -1,7 +1,5 @@
 -- `transmits::told` meets its contract. Assumes nothing.
 use mathlib.Core.Path.{ap, _∙_}
-use mathlib.Core.List.{List}
-use Prim.Native.Nat.{ℕ}
 use borrow.Author.Needs.{needs}
 use Rattle.tx_list.specs.Views.{has}
 use Rattle.transmits.specs.Transmits.{recordIn, listIn, knownIn}
