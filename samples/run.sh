@@ -50,7 +50,8 @@ refuses() {
 
 if [ "$check" != check ]; then
     echo "Proving the program and what it stands on; some minutes where nothing is proved yet."
-    rt check startup >/dev/null || { rt check startup; exit 1; }
+    mkdir -p target
+    bash tools/prove.sh check:startup >target/startup.log 2>&1 || { rt check startup; fail "startup is not proved"; }
     echo
 fi
 
