@@ -1,4 +1,5 @@
 #!/usr/bin/env bash
+# edits.sh texts: only whether the old text of each edit stands in its file once; takes seconds and no Rust.
 # edits.sh [LABEL..]: wrong versions, each of which `compare quick` must find: edits of canboat's Rust, of the refusals and of the
 # port's crates (edits/*.txt; their form and what each does: README.md). A line for each; the last one is 'N edits, N found'.
 # Exit 1 if one is not found, does not apply or does not build. SEED=n takes other cases, JOBS=n so many at a time (2),
@@ -235,6 +236,23 @@ chosen() {
 for kind in canboat refusal port; do read_edits "$kind" "$here/edits/$kind.txt"; done
 twice=$(printf '%s\n' "${labels[@]}" | sort | uniq -d)
 [ -z "$twice" ] || fail "two edits are called $twice"
+tmp=$(mktemp -d) || exit 1
+trap 'rm -rf "$tmp"' EXIT
+
+if [ "$*" = texts ]; then
+    mkdir "$tmp/port"
+    cp -r "$here/../crates" "$tmp/port"
+    prepare "$tmp"
+    all=0
+    for i in "${!labels[@]}"; do
+        apply "$tmp" "${places[i]}" || fail "${labels[i]} does not apply"
+        restore "$tmp"
+        all=$((all + 1))
+    done
+    printf 'edits: %s apply\n' "$all"
+    exit 0
+fi
+
 only=''
 for label in "$@"; do
     [[ " ${labels[*]} " == *" $label "* ]] || fail "no edit $label"
@@ -243,8 +261,6 @@ done
 
 export CANBOAT_SRC=$canboat
 (cd "$here" && cargo build --release --offline --locked --quiet --target-dir target) || fail "the oracle does not build"
-tmp=$(mktemp -d) || exit 1
-trap 'rm -rf "$tmp"' EXIT
 mkdir "$tmp/results" "$tmp/rows"
 if [ -z "$only" ]; then
     prepare "$tmp/0"
