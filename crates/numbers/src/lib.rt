@@ -4,7 +4,7 @@
 // 9 present, 10 refused; 11 due time; 12 a list is known (not 0), 13 and whole; 14 the firmware was told, 15 its version (modulo 2^16);
 // 16 no part of Format 2 is in hand.
 // Numbers: none. No function requires anything: `state_of` takes a phase over 7 for done, and the exports refuse it before they call it.
-// Place: on the states of `tx_list` and the counts of `bounds`, beside `phases`; below `ngt1_session`.
+// Place: on the states of `tx_list` and the counts of `bounds`, beside `phases`; below `ngt1_session` and `startup`.
 use bounds::Counts;
 use tx_list::State;
 ghost use mathlib.Core.Path.{_≡_};

@@ -1,12 +1,13 @@
 // The lines of a script, which says what a gateway tells the host and when: `<ms> tick`, `<ms> wire <hex>`, `<ms> firmware <number>`.
-// Blank lines and lines that begin with # are skipped. A line that cannot be read has a number:
+// Blank lines and lines that begin with # are skipped.
+// Numbers: its own, of a line that cannot be read:
 //   1  no time: the first word is no number up to 18446744073709551615
 //   2  no such word after the time
 //   3  something after `tick`, or after the firmware's number
 //   4  not one byte or more in pairs of hexadecimal digits
 //   5  no firmware's number up to 65535
-// It stands on `field` and, for digits, on `firmware` (and in one law on `report`, which writes numbers); the program `startup` stands above it.
 // No function here that is pub requires anything.
+// Place: on `field` and, for digits, on `firmware` (and in one law on `report`, which writes numbers); below `startup`.
 mod hex;
 mod words;
 

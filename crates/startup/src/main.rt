@@ -1,7 +1,8 @@
-// The start-up of a gateway played through: `startup PGN..` reads on standard input what the gateway says and when, feeds the decoder and
+// Program: the start-up of a gateway played through. `startup PGN..` reads on standard input what the gateway says and when, feeds the decoder and
 // the session, and tells what happens, then for each wanted PGN whether the gateway will transmit it, and the record (samples/README.md).
-// What the calls do is proved in `scripts`, `framing`, `session` and `transmits`; here lines are read, calls are made and told.
-// Refusals of the session are told with their numbers (11, 13, 14); a bad line with its own number and what is wrong with it, and the run stops there.
+// Numbers: the session's refusals 11, 13 and 14 and the decoder's errors 1 to 5 are told with their numbers; a bad line with its place and what is
+// wrong with it, and the run stops there.
+// Place: on `scripts`, `framing`, `session` and `transmits`, where what the calls do is proved; here lines are read, calls are made and told.
 use end::tell_end;
 use end::tell_wanted;
 use libc::STDERR_FILENO;

@@ -1,5 +1,6 @@
 // Whether the gateway will transmit a PGN, as far as a session learnt it: the answer that the program startup gives for each wanted PGN.
-// Stands on `session` (its record and its lists) and `pgns`; below the program. No numbers: every session has an answer.
+// Numbers: none. Every session has an answer.
+// Place: on `session` (its record and its lists) and `pgns`; below `startup`.
 ghost use mathlib.Core.Path.{_≡_};
 ghost use mathlib.Core.List.{List};
 ghost use Prim.Native.Nat.{ℕ};
