@@ -109,6 +109,10 @@ kept-numbers n n′ k y e f g = by-number (eqb k 0) refl
 pub kept-leaves : (n n′ : List ℕ) (k : ℕ) (y : Numbers) → n′ ≡ pick (eqb k 0) (numbersAs y) n → numbersIn n′ ≡ y → n′ ≡ leaves k n n′
 kept-leaves n n′ k y e f = e ∙ ap (λ (x : Numbers). pick (eqb k 0) (numbersAs x) n) (sym f)
 
+-- what is left is told by the session that it holds: two lists of numbers that hold the same are the same
+pub leaves-tell : (n a b : List ℕ) (k : ℕ) → a ≡ leaves k n a → b ≡ leaves k n b → numbersIn a ≡ numbersIn b → a ≡ b
+leaves-tell n a b k e f h = e ∙ ap (λ (x : Numbers). pick (eqb k 0) (numbersAs x) n) h ∙ sym f
+
 -- a phase over 7
 module _ (n : List ℕ) (a : Arrays) (h : 7 < getD n 0 0) where
   pub none-answers : (out : List ℕ) (go : Sync → Told) → _≡_ {A = Told} (record { number = 16; count = 0; sync = syncOf (numbersIn n) a; out = out }) (answers n a out go)
