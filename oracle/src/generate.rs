@@ -81,6 +81,14 @@ pub fn fill(part: &Part, seed: u64, size: usize, blocks: &mut Blocks) {
 /// How many cases go to a program at once.
 const BATCH: usize = 5_000;
 
+/// The size of quick's first batch.
+pub fn first_size(part: &Part) -> usize {
+    match part.kind {
+        Fixed(_) => part.quick,
+        Random(_) => part.quick.min(BATCH),
+    }
+}
+
 /// The part's cases in batches: the seed and size of each. No two seeds share a batch.
 pub fn batches(part: &Part, seed: u64, size: usize) -> Vec<(u64, usize)> {
     match part.kind {

@@ -3,15 +3,15 @@
 //! oracle differences                      the inputs of docs/DIFFERENCES.md, run on the Rust
 //! oracle parts                            the generators: program, name, sizes
 //! oracle alone PART|all SEED [SIZE]       the Rust by itself, at full size: how often each number was answered
-//! oracle script PROGRAM quick|full SEED   > script
+//! oracle script NAME quick|full SEED      > script, of a program or of one part
+//! oracle script NAME first SEED           > the same, but of a random part only quick's first cases
 //! oracle run                              < script > transcript
 //! oracle show FILE                        the calls of a script, with the Rust's answers, as text
 //! oracle sample PROGRAM SEED DIR          DIR/stdin and DIR/stdout, for the program of that name
 //! oracle words                            < script > a word for the transcript of each block
-//! oracle where PROGRAM SEED BLOCK         the part that a block of quick's script is of
 //! oracle list                             < bytes    the listing program's lines
 use oracle::blocks::{BLOCK, Blocks, run};
-use oracle::generate::{PARTS, Part, batches, fill};
+use oracle::generate::{PARTS, Part, batches, fill, first_size};
 use oracle::script::{answers, calls, sum};
 use oracle::{alone, compare, differences, run as side, text};
 use std::io::{Read, Write};
@@ -32,12 +32,12 @@ fn input() -> Vec<u8> {
     all
 }
 
-/// The parts of a program in one script, each with the size that `of` takes: the cases of a comparison. Each part begins a block where
-/// that is told by `begins`.
-fn script(program: &str, seed: u64, of: fn(&Part) -> usize, mut begins: impl FnMut(&Part, usize) -> bool) -> Blocks {
+/// The parts of a program, or the part of that name, in one script, each with the size that `of` takes: the cases of a comparison. Each
+/// part begins a block if `apart`.
+fn script(name: &str, seed: u64, of: fn(&Part) -> usize, apart: bool) -> Blocks {
     let mut blocks = Blocks::default();
-    for part in PARTS.iter().filter(|p| p.program == program) {
-        if begins(part, blocks.script.len().div_ceil(BLOCK)) {
+    for part in PARTS.iter().filter(|p| p.program == name || p.name == name) {
+        if apart && !blocks.script.is_empty() {
             blocks.next_block();
         }
         for (seed, size) in batches(part, seed, of(part)) {
@@ -45,19 +45,6 @@ fn script(program: &str, seed: u64, of: fn(&Part) -> usize, mut begins: impl FnM
         }
     }
     blocks
-}
-
-/// The part that a block of quick's script is of.
-fn part_of(program: &str, seed: u64, block: usize) -> String {
-    let mut found = "no part";
-    let mut begins = |part: &Part, from: usize| {
-        if from <= block {
-            found = part.name;
-        }
-        from > 0
-    };
-    script(program, seed, |p| p.quick, &mut begins);
-    format!("{found}\n")
 }
 
 /// A word for the transcript of each block of a script.
@@ -119,14 +106,14 @@ fn main() {
             alone::alone(p, number(seed), size.first().map_or(p.full, |s| number(s)));
             Vec::new()
         }
-        ["script", program, "quick", seed] => script(program, number(seed), |p| p.quick, |_, from| from > 0).script,
-        ["script", program, "full", seed] => script(program, number(seed), |p| p.full, |_, from| from > 0).script,
-        ["where", program, seed, block] => part_of(program, number(seed), number(block)).into_bytes(),
+        ["script", name, "quick", seed] => script(name, number(seed), |p| p.quick, true).script,
+        ["script", name, "full", seed] => script(name, number(seed), |p| p.full, true).script,
+        ["script", name, "first", seed] => script(name, number(seed), first_size, true).script,
         ["words"] => block_words(&input()),
         ["run"] => run(&input()),
         ["show", file] => show(&std::fs::read(file).unwrap()).into_bytes(),
         ["sample", program, seed, dir] => {
-            let blocks = script(program, number(seed), |p| p.sample, |_, _| false);
+            let blocks = script(program, number(seed), |p| p.sample, false);
             std::fs::write(format!("{dir}/stdin"), &blocks.script).unwrap();
             std::fs::write(format!("{dir}/stdout"), &blocks.transcript).unwrap();
             println!("{} cases, {} calls", blocks.cases, blocks.calls);
