@@ -1,0 +1,2 @@
+-- What std's words say in the definitions' own.
+pub mod StdWords

@@ -1,0 +1,3 @@
+-- What std's words say in the definitions' own.
+pub mod StdWords
+pub mod Said
