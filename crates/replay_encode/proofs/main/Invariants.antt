@@ -1,5 +1,0 @@
--- What falls with each turn.
-use Rattle.replay_encode.proofs.main.Given as goal
-
-abbrev pub decreases-loop-turns : goal.decreases-loop-turns
-decreases-loop-turns l = l.turns

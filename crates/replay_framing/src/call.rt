@@ -1,0 +1,113 @@
+// A call read: its op says which, and its body the rest.
+use framing::Phase;
+use transcript::{Body, LentCall};
+
+const ENCODE: u8 = 0x12;
+
+const LENT: u8 = 0x4A;
+
+// The most that a lent buffer can have.
+const MOST: usize = 1100;
+
+// kept: replay_encode has its own, of more messages
+// ENCODE: a message into a frame, in an area of so many bytes.
+#[derive(Clone, Copy)]
+pub(crate) struct Encode<'a> {
+    pub command: u8,
+    pub room: usize,
+    pub payload: &'a [u8],
+}
+
+impl<'a> Encode<'a> {
+    fn read(body: &mut Body<'a>) -> Self {
+        Encode {
+            command: body.take(),
+            room: usize::from(body.take::<u16>()),
+            payload: body.rest(),
+        }
+    }
+}
+
+impl LentCall for Encode<'_> {
+    // The comparison with the Rust looks at what is answered; nothing is proved of it here.
+    ghost answers = { λ call old outcome new. Unit {0} };
+
+    fn make(self, area: &mut [u8]) -> Result<usize, u8> {
+        match framing::encode_ngt_message(self.command, self.payload, area) {
+            Ok(written) => Ok(written.count),
+            Err(error) => Err(error.number()),
+        }
+    }
+}
+
+// A call of the decoder.
+#[derive(Clone, Copy)]
+pub(crate) enum Decode<'a> {
+    Reset,
+    Push(&'a [u8]),
+    PushEach(&'a [u8]),
+    Set {
+        phase: Phase,
+        held: &'a [u8],
+    },
+    Raw {
+        phase: Phase,
+        count: usize,
+        len: usize,
+    },
+    Look,
+}
+
+#[derive(Clone, Copy)]
+pub(crate) enum Request<'a> {
+    Decode(Decode<'a>),
+    Encode(Encode<'a>),
+    Lent(Encode<'a>),
+}
+
+// kept: the numbers of FORMAT.md, which a phase of the library has none of
+// The phase with a number, modulo 4.
+fn phase_of(number: u8) -> Phase {
+    match number % 4 {
+        0 => Phase::Idle,
+        1 => Phase::InFrame,
+        2 => Phase::EscapeOutside,
+        _ => Phase::EscapeInside,
+    }
+}
+
+pub(crate) fn number_of(phase: Phase) -> u8 {
+    match phase {
+        Phase::Idle => 0,
+        Phase::InFrame => 1,
+        Phase::EscapeOutside => 2,
+        Phase::EscapeInside => 3,
+    }
+}
+
+impl<'a> Request<'a> {
+    // None where there is no such op, and for LENT of another op than ENCODE.
+    pub(crate) fn read(op: u8, body: &mut Body<'a>) -> Option<Self> {
+        match op {
+            0x10 => Some(Request::Decode(Decode::Reset)),
+            0x11 => Some(Request::Decode(Decode::Push(body.rest()))),
+            ENCODE => Some(Request::Encode(Encode::read(body))),
+            0x13 => Some(Request::Decode(Decode::Set {
+                phase: phase_of(body.take()),
+                held: body.rest(),
+            })),
+            0x14 => Some(Request::Decode(Decode::Raw {
+                phase: phase_of(body.take()),
+                count: usize::from(body.take::<u16>()),
+                len: usize::from(body.take::<u16>()).min(MOST),
+            })),
+            0x15 => Some(Request::Decode(Decode::Look)),
+            0x16 => Some(Request::Decode(Decode::PushEach(body.rest()))),
+            LENT => match body.take() {
+                ENCODE => Some(Request::Lent(Encode::read(body))),
+                _ => None,
+            },
+            _ => None,
+        }
+    }
+}

@@ -1,0 +1,50 @@
+// Why a run ends early.
+use scripts::LineError;
+use std::alloc::{AllocError, AllocFailed};
+use std::fmt;
+
+#[derive(Clone, Copy)]
+pub(crate) enum Stop {
+    Usage,
+    // The argument at this place.
+    NoPgn(usize),
+    TooManyWanted,
+    // The line of this number.
+    BadLine(u64, LineError),
+    LongLine(u64),
+    Unreadable,
+    OutOfMemory,
+}
+
+impl fmt::Display for Stop {
+    fn fmt<W: fmt::Write>(&self, f: &mut fmt::Formatter<W>) -> fmt::Result {
+        match self {
+            Stop::Usage => write!(f, "usage: startup PGN.. <SCRIPT"),
+            Stop::NoPgn(i) => write!(f, "argument {i} is no PGN: a number up to 262143"),
+            Stop::TooManyWanted => write!(f, "refused with 11: over 64 PGNs are wanted"),
+            Stop::BadLine(number, error) => write!(f, "line {number}: {error}"),
+            Stop::LongLine(number) => write!(f, "line {number}: longer than 65535 bytes"),
+            Stop::Unreadable => write!(f, "standard input cannot be read"),
+            Stop::OutOfMemory => write!(f, "out of memory"),
+        }
+    }
+}
+
+impl From<AllocError> for Stop {
+    fn from(_e: AllocError) -> Stop {
+        Stop::OutOfMemory
+    }
+}
+
+impl<T: Drop> From<AllocFailed<T>> for Stop {
+    fn from(_e: AllocFailed<T>) -> Stop {
+        Stop::OutOfMemory
+    }
+}
+
+// Of a buffered reader that is not made for want of memory.
+impl From<std::io::Error> for Stop {
+    fn from(_e: std::io::Error) -> Stop {
+        Stop::OutOfMemory
+    }
+}
