@@ -1,0 +1,22 @@
+use Rattle.std.proofs.Common.{ap, ◌∙◌}
+use Rattle.phases.specs.Sync.{wrote_step}
+use Rattle.helm.specs.declared.stored.Numbers.{Numbers}
+use Rattle.helm.specs.Steps.{minded, overfills, heard_by}
+use Rattle.helm.proofs.entry.hear.Goals as goal
+
+pub heard-step-requires : goal.heard-step-requires
+heard-step-requires g c =
+    let l = g.M.Memory.limits in
+    let s = g.M.Memory.stored c.args.memory.now in
+    let m = c.args.payload.now in
+    record {
+      minds = ap (λ (n : Numbers). minded n m) c.of-tested.ensures ∙ c.requires.minds;
+      room = ap (λ (n : Numbers). overfills l n s m) c.of-tested.ensures ∙ c.requires.list;
+    }
+
+pub returns : goal.returns
+returns g c =
+    let l = g.M.Memory.limits in
+    let s = g.M.Memory.stored c.args.memory.now in
+    c.finish.ensures
+    ∙ ap (λ x. wrote_step x c.args.out.now) (c.heard-step.ensures ∙ ap (λ (n : Numbers). heard_by l n s c.args.at.ms c.args.payload.now) c.of-tested.ensures)

@@ -1,0 +1,8 @@
+use Rattle.tx_list.proofs.Kept.{demand3_kept}
+use Rattle.helm.specs.Stored.{kind_of}
+use Rattle.helm.specs.Calls.{store_of}
+use Rattle.helm.proofs.RunLaws.{lawful, faithful}
+use Rattle.helm.proofs.laws.demand_3.Goals as goal
+
+pub returns : goal.returns
+returns c = λ l f. demand3_kept (kind_of l) (store_of l) (lawful l f) (faithful l)

@@ -1,0 +1,7 @@
+-- A session in memory, the calls, and the machine.
+pub mod Words
+pub mod Stored
+pub mod Arrays
+pub mod Steps
+pub mod Calls
+pub mod Machines

@@ -1,0 +1,24 @@
+// The transmit-list session (module 6), once for every machine: a trait of memory, the calls over it, and the machine of a helm.
+#![tactic(auto)]
+
+mod answers;
+mod arrays;
+mod entry;
+pub mod laws;
+mod lent;
+mod machines;
+pub mod memory;
+pub mod moment;
+mod parts;
+mod reading;
+mod session;
+mod steps;
+pub mod stored;
+mod tested;
+mod ticks;
+pub mod words;
+
+pub use lent::Lent;
+pub use machines::Helm;
+pub use memory::Memory;
+pub use session::Session;

@@ -1,0 +1,47 @@
+// Numbers that passed the test of a state: the only way into a session, and the one place that tests it.
+ghost use Rattle.std.specs.Prelude.{◌≡◌, IsTrue};
+ghost use Rattle.helm.specs.Stored.{is_well_formed};
+
+use crate::memory::Memory;
+use crate::stored::Numbers;
+use std::marker::PhantomData;
+
+/// The numbers of a machine's session, which are those of a session.
+#[derive(Drop)]
+pub(crate) struct Tested<M: Memory> {
+    pub(crate) numbers: Numbers,
+    machine: PhantomData<M>,
+    ghost formed: { IsTrue (is_well_formed M.limits numbers) },
+}
+
+impl<M: Memory> Tested<M> {
+    /// The numbers in memory, which passed the test.
+    pub(crate) fn of(memory: &M) -> Tested<M>
+        requires { IsTrue (is_well_formed M.limits (M.stored memory.now).numbers) }
+        ensures { result.numbers ≡ (M.stored memory.now).numbers }
+    {
+        Tested {
+            numbers: memory.numbers(),
+            machine: PhantomData,
+        }
+    }
+}
+
+/// Whether the numbers in memory are those of a session. Most are told by one look; the rest is a call of its own, so that a call that does
+/// nothing copies nothing.
+#[inline(always)]
+pub(crate) fn is_session<M: Memory>(memory: &M) -> bool
+    ensures { result ≡ is_well_formed M.limits (M.stored memory.now).numbers }
+{
+    if memory.numbers().is_calm(M::limits()) {
+        return true;
+    }
+    is_sound(memory)
+}
+
+#[inline(never)]
+fn is_sound<M: Memory>(memory: &M) -> bool
+    ensures { result ≡ is_well_formed M.limits (M.stored memory.now).numbers }
+{
+    memory.numbers().is_well_formed(M::limits())
+}
