@@ -1,7 +1,7 @@
 -- What a turn of the loop of `feed` goes by: a run of plain bytes, and then one byte that is looked at. Assumes nothing.
-use Rattle.std.specs.Prelude.{◌≡◌, ℕ, ◌+◌, ◌<◌, ◌≤◌, true, false, List, length, slice_index, Option, None, Some, Ok, refl}
+use Rattle.std.specs.Prelude.{◌≡◌, ℕ, ◌+◌, ◌-◌, ◌<◌, ◌≤◌, true, false, List, length, take, drop, slice_index, Option, None, Some, Ok, refl}
 use Rattle.std.specs.Option.{is_some}
-use Rattle.std.proofs.Common.{arith, ap, sym, ◌∙◌}
+use Rattle.std.proofs.Common.{arith, ap, sym, ◌∙◌, take_all, length-drop}
 use Rattle.framing.specs.declared.decode.Phase.{Phase}
 use Rattle.framing.specs.declared.decode.Phase.TheVariants.{Idle, InFrame}
 use Rattle.framing.specs.declared.decode.Decoder.{Decoder}
@@ -9,7 +9,8 @@ use Rattle.framing.specs.declared.decode.Event.{Event}
 use Rattle.framing.specs.declared.decode.Event.TheVariants.{Message, Broken}
 use Rattle.framing.specs.Unstuff.{State, state}
 use Rattle.framing.specs.Decode.{quiet, step, told_pushed}
-use Rattle.framing.specs.Feed.{told_fed, fed}
+use Rattle.std.proofs.lemmas.List.{drop-drop}
+use Rattle.framing.specs.Feed.{Feed, told_fed, fed, shift}
 use Rattle.framing.specs.From.{from, Skips, Collects, Runs}
 use Rattle.framing.specs.FromLaws.{from_on, from_stop, from_start, from_end}
 
@@ -38,6 +39,36 @@ module _ (d : Decoder) (buf bytes : List ℕ) (i : ℕ) where
 
   pub runs_none : d.count ≤ 1024 → i ≤ length bytes → Runs d buf bytes i d buf i
   runs_none small inside = record { on = omega arith; inside = inside; small = small; same = refl }
+
+-- from a place on, in what is left from another place on
+pub from_more : (s : State) (bytes : List ℕ) (i j : ℕ) → from s (i + j) bytes ≡ shift i (from s j (drop i bytes))
+unfolding from
+from_more s bytes i j =
+    let f = fed s (drop (i + j) bytes) in
+    let g = fed s (drop j (drop i bytes)) in
+    let e : i + j + f.used ≡ i + (j + f.used) = omega arith in
+    ap {B = Feed} (λ (k : ℕ). record { next = f.next; used = k; outcome = f.outcome }) e
+    ∙ ap (λ (l : List ℕ). shift i (shift j (fed s l))) (sym (drop-drop j i bytes))
+
+-- a run over what is left from a place on, a slice of the bytes
+module _ (d : Decoder) (buf bytes : List ℕ) (i : ℕ) (d' : Decoder) (buf' : List ℕ) (j : ℕ) (r : Runs d buf (take (length bytes - i) (drop i bytes)) 0 d' buf' j) where
+  left : take (length bytes - i) (drop i bytes) ≡ drop i bytes
+  left = take_all (length bytes - i) (drop i bytes) (omega (arith, length-drop i bytes))
+
+  pub runs_inside : i ≤ length bytes → i + j ≤ length bytes
+  runs_inside h = omega (arith, r.inside, ap length left, length-drop i bytes)
+
+  pub runs_on : from (state d.phase d.count buf) i bytes ≡ from (state d'.phase d'.count buf') (i + j) bytes
+  runs_on =
+      let s = state d.phase d.count buf in
+      let t = state d'.phase d'.count buf' in
+      let z : i ≡ i + 0 = omega arith in
+      ap (λ (k : ℕ). from s k bytes) z
+      ∙ from_more s bytes i 0
+      ∙ ap (λ (l : List ℕ). shift i (from s 0 l)) (sym left)
+      ∙ ap (shift i) r.same
+      ∙ ap (λ (l : List ℕ). shift i (from t j l)) left
+      ∙ sym (from_more t bytes i j)
 
 -- one byte that is not refused
 module _ (d d' : Decoder) (buf buf' bytes : List ℕ) (i : ℕ) (h : i < length bytes) where

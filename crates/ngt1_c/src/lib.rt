@@ -1,6 +1,8 @@
 // The static library libngt1.a that programs in C and Rust link: each function of `ngt1`, with its clauses, under its name in C. It keeps no state.
 // Numbers: those of `ngt1`; none is made here, and no function requires anything. What C must keep to (a pointer with as many elements as its
 // length says) is in bindings/c/ngt1.h.
+// kept: the C interface needs it: each export is one call of the function of the same name in `ngt1`, with its clauses once more, since no crate
+// can stand on a static library and Rattle programs are to have these functions too; its answers are numbers, as C is handed them.
 // Place: on `ngt1` alone, and on `lists` for the parts of a Format 2 read; libngt1_session.a (`ngt1_session_c`) has the session.
 #![tactic(auto)]
 

@@ -1,10 +1,13 @@
 -- What a reply makes of the information, by its sequence and length. Assumes nothing.
-use Rattle.std.proofs.Common.{ℕ, ◌<◌, ◌≤◌, ◌≡◌, true, false, List, length, Result, Ok, Err, MatchResult, sym, ap, ◌∙◌}
+use Rattle.std.proofs.Common.{ℕ, ◌<◌, ◌≤◌, ◌≡◌, true, false, List, length, Result, Ok, Err, MatchResult, eqb, sym, ap, ◌∙◌}
+use Rattle.std.specs.Result.{IsErrAnd}
 use Rattle.field.specs.Fields.{field}
-use Rattle.texts.specs.Texts.{text_at}
+use Rattle.texts.specs.Texts.{TextRead, told_text, text_at}
+use Rattle.texts.specs.declared.Text.{Text}
 use Rattle.texts.specs.declared.error.NotAscii.{NotAscii}
 use Rattle.product.specs.declared.ProductInfo.{ProductInfo}
 use Rattle.product.specs.Product.{refused, held, plain_at, plain_all, all_in, with_numbers, with_text, by_sequence, told_reply}
+use Rattle.product.proofs.Said.{handed_on}
 use Rattle.product.specs.ProductLaws.{all_short, all_bad, all_set, numbers_short, numbers_set, text_short, text_bad, text_set, add_six, add_one, add_part, add_low, add_high}
 
 module _ (p : ProductInfo) (s : ℕ) (d : List ℕ) where
@@ -38,6 +41,15 @@ module _ (p : ProductInfo) (s : ℕ) (d : List ℕ) where
 
   pub part_refused : 2 ≤ s → s ≤ 5 → 32 ≤ length d → plain_at d 0 ≡ false → refused p 15 ≡ by_sequence p s d
   part_refused e f h g = sym (add_part p s d e f ∙ text_bad p s d h g)
+
+  -- by what `text_at` returned
+  pub text_told : (q : ProductInfo) (t : Text) → 2 ≤ s → s ≤ 5 → 32 ≤ length d → told_text (Ok t) ≡ text_at d 0 → q ≡ with_text p s t → held q ≡ by_sequence p s d
+  text_told q t e f h g k =
+      part_set q e f h (ap (λ (r : TextRead). eqb r.number 0) (sym g)) (k ∙ ap (λ (r : TextRead). with_text p s r.text) g)
+
+  pub text_refused : (r : Result ProductInfo NotAscii) (n : NotAscii) → 2 ≤ s → s ≤ 5 → 32 ≤ length d → IsErrAnd r (λ x. x ≡ n) → told_text (Err n) ≡ text_at d 0
+      → told_reply p r ≡ by_sequence p s d
+  text_refused r n e f h m g = sym (handed_on p r n m) ∙ part_refused e f h (ap (λ (x : TextRead). eqb x.number 0) (sym g))
 
 -- the cases in which nothing changes
 pub ruleset unchanged = (six_short, one_short, part_short, other_low, other_high)

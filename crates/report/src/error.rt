@@ -1,6 +1,7 @@
 // Why nothing is listed, by name and by number.
 ghost use Rattle.std.specs.Prelude.{◌≡◌};
 ghost use Rattle.report.specs.Told.{list_number};
+ghost use Rattle.report.specs.declared.error.ListError.TheVariants.{Decode};
 
 use framing::DecodeError;
 use std::error::Error;
@@ -24,6 +25,14 @@ impl ListError {
             ListError::Decode(error) => error.number(),
             ListError::OutputTooSmall => 7,
         }
+    }
+}
+
+impl From<DecodeError> for ListError {
+    ghost from_gives = { λ error e. e ≡ Decode error };
+
+    fn from(error: DecodeError) -> Self {
+        Self::Decode(error)
     }
 }
 

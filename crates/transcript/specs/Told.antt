@@ -15,6 +15,11 @@ told t = log t.place t.text.now
 abbrev pub slice_name : Transcript → GName
 slice_name t = t.text.ghost_name
 
+-- what a call makes of a transcript: what it tells then, in the same slice
+pub record Tells (old new : Transcript) (l : Log) : Type 0 where
+  pub told : told new ≡ l
+  pub same_slice : slice_name new ≡ slice_name old
+
 -- an area closed by what a call on it answered: how many bytes it wrote, or the number of its refusal
 abbrev pub told_closed : Area → Result ℕ ℕ → List ℕ → Log
 told_closed a (Ok written) text = area_closed a 0 written text

@@ -3,7 +3,7 @@ ghost use Rattle.std.specs.Prelude.{◌≡◌, replicate, take};
 ghost use Rattle.field.specs.Fields.{bytes_of};
 ghost use Rattle.transcript.specs.Log.{log, put, puts, head_of, sized};
 ghost use Rattle.transcript.specs.Lent.{inside};
-ghost use Rattle.transcript.specs.Told.{told, slice_name};
+ghost use Rattle.transcript.specs.Told.{told, slice_name, Tells};
 
 use crate::{Number, first};
 
@@ -21,40 +21,6 @@ pub struct Answer {
     pub op: u8,
     pub head: usize,
     pub body: usize,
-}
-
-#[tactic(auto, using(crate::specs::LogLaws::put_inside, crate::specs::LogLaws::put_full))]
-fn put(text: &mut [u8], place: usize, b: u8) -> usize
-    ensures { log result text.new ≡ put (log place text.old) b }
-{
-    if place < text.len() {
-        text[place] = b;
-        return place + 1;
-    }
-    place
-}
-
-// The bytes, one after the other, and the place after the last.
-// kept: no plainer: as a copy it is a test, the lesser of two and two parts of slices, since what has no room is dropped
-fn put_each(text: &mut [u8], place: usize, bytes: &[u8]) -> usize
-    ensures { log result text.new ≡ puts (log place text.old) bytes.now }
-{
-    let mut next = place;
-    for &b in bytes {
-        next = put(text, next, b);
-    }
-    next
-}
-
-// A byte, so many times, and the place after the last.
-fn repeat(text: &mut [u8], place: usize, count: usize, b: u8) -> usize
-    ensures { log result text.new ≡ puts (log place text.old) (replicate count b) }
-{
-    let mut next = place;
-    for _ in 0..count {
-        next = put(text, next, b);
-    }
-    next
 }
 
 impl<'a> Transcript<'a> {
@@ -82,31 +48,44 @@ impl<'a> Transcript<'a> {
 
     // The place, or the text's end where the place is past it.
     pub(crate) fn keep_inside(&mut self)
-        ensures told { told self.new ≡ inside (told self.old) }
-        ensures same_slice { slice_name self.new ≡ slice_name self.old }
+        ensures { Tells self.old self.new (inside (told self.old)) }
     {
         self.place = self.place.min(self.text.len());
     }
 
-    pub fn put_bytes(&mut self, bytes: &[u8])
-        ensures told { told self.new ≡ puts (told self.old) bytes.now }
-        ensures same_slice { slice_name self.new ≡ slice_name self.old }
+    #[tactic(auto, using(crate::specs::LogLaws::put_inside, crate::specs::LogLaws::put_full))]
+    fn put_byte(&mut self, b: u8)
+        ensures { Tells self.old self.new (put (told self.old) b) }
     {
-        self.place = put_each(self.text, self.place, bytes);
+        if self.place < self.text.len() {
+            self.text[self.place] = b;
+            self.place += 1;
+        }
+    }
+
+    /// Bytes, one after the other.
+    // kept: no plainer: as a copy it is a test, the lesser of two and two parts of slices, since what has no room is dropped
+    pub fn put_bytes(&mut self, bytes: &[u8])
+        ensures { Tells self.old self.new (puts (told self.old) bytes.now) }
+    {
+        for &b in bytes {
+            self.put_byte(b);
+        }
     }
 
     /// A byte, so many times.
+    // kept: no plainer: as a `fill` it is two sums and a part of the slice, since what has no room is dropped
     pub fn fill(&mut self, count: usize, b: u8)
-        ensures told { told self.new ≡ puts (told self.old) (replicate count b) }
-        ensures same_slice { slice_name self.new ≡ slice_name self.old }
+        ensures { Tells self.old self.new (puts (told self.old) (replicate count b)) }
     {
-        self.place = repeat(self.text, self.place, count, b);
+        for _ in 0..count {
+            self.put_byte(b);
+        }
     }
 
     /// A number, the lowest byte first.
     pub fn put<N: Number>(&mut self, x: N)
-        ensures told { told self.new ≡ puts (told self.old) (bytes_of N.WIDTH (N.value x)) }
-        ensures same_slice { slice_name self.new ≡ slice_name self.old }
+        ensures { Tells self.old self.new (puts (told self.old) (bytes_of N.WIDTH (N.value x))) }
     {
         x.put_into(self);
     }
@@ -114,8 +93,7 @@ impl<'a> Transcript<'a> {
     /// The low 16 bits of a number.
     #[tactic(auto, using(crate::specs::LogLaws::puts_low))]
     pub fn put_count(&mut self, x: usize)
-        ensures told { told self.new ≡ puts (told self.old) (bytes_of 2 x) }
-        ensures same_slice { slice_name self.new ≡ slice_name self.old }
+        ensures { Tells self.old self.new (puts (told self.old) (bytes_of 2 x)) }
     {
         // kept: no plainer: the low bits fit, and `try_from` would have a refusal that never comes
         self.put((x % 65536) as u16);
@@ -124,9 +102,8 @@ impl<'a> Transcript<'a> {
     /// The head of an answer. Its length comes when the body stands (`close`).
     #[tactic(auto, using(crate::specs::LogLaws::puts_head))]
     pub fn open(&mut self, op: u8, number: u8) -> Answer
-        ensures told { told self.new ≡ puts (told self.old) (head_of op number) }
+        ensures tells { Tells self.old self.new (puts (told self.old) (head_of op number)) }
         ensures answer { result ≡ record { op = op; head = (told self.old).place; body = (told self.new).place } }
-        ensures same_slice { slice_name self.new ≡ slice_name self.old }
     {
         let head = self.place;
         self.put_bytes(&[op, number, 0, 0]);
@@ -139,8 +116,7 @@ impl<'a> Transcript<'a> {
 
     /// The length of an answer's body, which ends here, put into its head.
     pub fn close(&mut self, answer: Answer)
-        ensures told { told self.new ≡ log (told self.old).place (sized (told self.old).text answer.body (told self.old).place) }
-        ensures same_slice { slice_name self.new ≡ slice_name self.old }
+        ensures { Tells self.old self.new (log (told self.old).place (sized (told self.old).text answer.body (told self.old).place)) }
     {
         let end = self.place;
         self.place = answer.body.saturating_sub(2);
@@ -150,8 +126,7 @@ impl<'a> Transcript<'a> {
 
     /// The number of a refusal in place of an answer that was begun: its body is empty.
     pub fn refuse(&mut self, answer: Answer, number: u8)
-        ensures told { told self.new ≡ puts (log answer.head (told self.old).text) (head_of answer.op number) }
-        ensures same_slice { slice_name self.new ≡ slice_name self.old }
+        ensures { Tells self.old self.new (puts (log answer.head (told self.old).text) (head_of answer.op number)) }
     {
         self.place = answer.head;
         self.open(answer.op, number);

@@ -3,19 +3,19 @@
 ghost use Rattle.std.specs.Prelude.{ℕ, ◌≡◌, ◌≤◌, List, [], Result, length};
 ghost use Rattle.field.specs.Fields.{bytes_of};
 ghost use Rattle.transcript.specs.Lent.{lent, opened};
-ghost use Rattle.transcript.specs.Told.{told, slice_name, told_closed, told_lent, number_of, LendsArea, AnswersArea};
+ghost use Rattle.transcript.specs.Told.{told, slice_name, Tells, told_closed, told_lent, number_of, LendsArea, AnswersArea};
 
 use crate::{Answer, BLANK, Transcript};
 
-/// Where an answer that holds a lent area stands in a transcript: its op, the place of its head, the place after the head,
-/// the area's first place and the place after its last.
+// Where an answer that holds a lent area stands in a transcript: its op, the place of its head, the place after the head,
+// the area's first place and the place after its last.
 #[derive(Clone, Copy, Debug, PartialEq, Eq)]
-pub struct Area {
-    pub op: u8,
-    pub head: usize,
-    pub body: usize,
-    pub start: usize,
-    pub end: usize,
+struct Area {
+    op: u8,
+    head: usize,
+    body: usize,
+    start: usize,
+    end: usize,
 }
 
 impl Area {
@@ -34,10 +34,7 @@ impl Area {
 fn number_of(outcome: Result<usize, u8>) -> u8
     ensures { result ≡ number_of outcome }
 {
-    match outcome {
-        Ok(_) => 0,
-        Err(number) => number,
-    }
+    outcome.err().unwrap_or(0)
 }
 
 /// A call that is lent an area of a transcript. It asks nothing of the area, so that any may be lent.
@@ -81,8 +78,7 @@ impl<'a> Transcript<'a> {
 
     // How many bytes were written, before the area; or the number of a refusal alone.
     fn close_area(&mut self, area: Area, outcome: Result<usize, u8>)
-        ensures told { told self.new ≡ told_closed area outcome (told self.old).text }
-        ensures same_slice { slice_name self.new ≡ slice_name self.old }
+        ensures { Tells self.old self.new (told_closed area outcome (told self.old).text) }
     {
         match outcome {
             Ok(written) => {
@@ -98,8 +94,7 @@ impl<'a> Transcript<'a> {
     // The number of a refusal or 0, and the area.
     // kept: no plainer: FORMAT.md has these two ends of an answer, and all that they share is `refuse` and `close`
     fn close_lent(&mut self, area: Area, outcome: Result<usize, u8>)
-        ensures told { told self.new ≡ told_lent area outcome (told self.old).text }
-        ensures same_slice { slice_name self.new ≡ slice_name self.old }
+        ensures { Tells self.old self.new (told_lent area outcome (told self.old).text) }
     {
         self.refuse(area.answer(), number_of(outcome));
         self.place = area.end;

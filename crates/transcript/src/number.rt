@@ -2,7 +2,7 @@
 ghost use Rattle.std.specs.Prelude.{ℕ, ◌≡◌};
 ghost use Rattle.field.specs.Fields.{field, bytes_of};
 ghost use Rattle.transcript.specs.Log.{puts};
-ghost use Rattle.transcript.specs.Told.{told, slice_name};
+ghost use Rattle.transcript.specs.Told.{told, Tells};
 
 use crate::Transcript;
 use field::{byte_at, u16_at, u32_at};
@@ -18,8 +18,7 @@ pub trait Number: Copy {
 
     /// Writes it. What does not fit is dropped.
     fn put_into(self, out: &mut Transcript<'_>)
-        ensures told { told out.new ≡ puts (told out.old) (bytes_of WIDTH (value self)) }
-        ensures same_slice { slice_name out.new ≡ slice_name out.old };
+        ensures { Tells out.old out.new (puts (told out.old) (bytes_of WIDTH (value self))) };
 
     /// The number at the start of a slice. A byte that is not there reads as 0.
     fn read(s: &[u8]) -> Self
@@ -91,8 +90,17 @@ impl Number for u64 {
         out.put_bytes(&u64::to_le_bytes(self));
     }
 
-    #[tactic(auto, using(crate::specs::LogLaws::field_8))]
+    #[tactic(auto, using(crate::specs::LogLaws::field_8_bytes))]
     fn read(s: &[u8]) -> Self {
-        u64::from(u32_at(s, 0)) + 4294967296 * u64::from(u32_at(s, 4))
+        u64::from_le_bytes([
+            byte_at(s, 0),
+            byte_at(s, 1),
+            byte_at(s, 2),
+            byte_at(s, 3),
+            byte_at(s, 4),
+            byte_at(s, 5),
+            byte_at(s, 6),
+            byte_at(s, 7),
+        ])
     }
 }

@@ -1,8 +1,7 @@
-use Rattle.std.proofs.Common.{arith, sym, ap, ap₂, ◌∙◌, eqb}
-use Rattle.texts.specs.Texts.{TextRead}
+-- `product::with_reply` meets its contract. Assumes nothing.
+use Rattle.std.proofs.Common.{arith, refl, ap₂, ◌∙◌}
 use Rattle.product.specs.Product.{with_numbers, with_text}
-use Rattle.product.proofs.ReplyLaws.{six_told, one_set, part_set, part_refused}
-use Rattle.product.proofs.Said.{handed_on}
+use Rattle.product.proofs.ReplyLaws.{six_told, one_set, text_told, text_refused}
 use Rattle.product.proofs.with_reply.Goals as goal
 
 pub returns-in-6 : goal.returns-in-6
@@ -13,15 +12,46 @@ returns-in-1 c =
     one_set c.args.info c.args.sequence c.args.«data».now _ c.in-1.is (omega arith)
     (c.with_numbers.ensures ∙ ap₂ (with_numbers c.args.info) c.u16_at.ensures c.u16_at-in-1.ensures)
 
-pub returns-in_err-text-in-2-to-5 : goal.returns-in_err-text-in-2-to-5
-returns-in_err-text-in-2-to-5 c =
-    sym (handed_on c.args.info c.from_residual.result _ c.from_residual.ensures.1)
-    ∙ part_refused c.args.info c.args.sequence c.args.«data».now (omega arith) (omega arith) (omega arith)
-    (ap (λ (r : TextRead). eqb r.number 0) (sym c.in_err-text-in-2-to-5.ensures.exact))
+pub returns-in_err-text_at-in-2 : goal.returns-in_err-text_at-in-2
+returns-in_err-text_at-in-2 c =
+    text_refused c.args.info c.args.sequence c.args.«data».now c.from_residual.result _ (omega arith) (omega arith) (omega arith)
+    c.from_residual.ensures.1 c.in_err-text_at-in-2.ensures.exact
 
-pub returns-in_ok-text-in-2-to-5 : goal.returns-in_ok-text-in-2-to-5
-returns-in_ok-text-in-2-to-5 c =
-    let e = c.in_ok-text-in-2-to-5.ensures.exact in
-    part_set c.args.info c.args.sequence c.args.«data».now _ (omega arith) (omega arith) (omega arith)
-    (ap (λ (r : TextRead). eqb r.number 0) (sym e))
-    (c.with_text.ensures ∙ ap (λ (r : TextRead). with_text c.args.info c.args.sequence r.text) e)
+pub returns-in_ok-text_at-in-2 : goal.returns-in_ok-text_at-in-2
+unfolding with_text
+returns-in_ok-text_at-in-2 c =
+    text_told c.args.info c.args.sequence c.args.«data».now _ c.in_ok-text_at-in-2.field-0 (omega arith) (omega arith) (omega arith)
+    c.in_ok-text_at-in-2.ensures.exact (rw c.in-2.is refl)
+
+pub returns-in_err-text_at-in-3 : goal.returns-in_err-text_at-in-3
+returns-in_err-text_at-in-3 c =
+    text_refused c.args.info c.args.sequence c.args.«data».now c.from_residual-in_err-text_at-in-3.result _ (omega arith) (omega arith) (omega arith)
+    c.from_residual-in_err-text_at-in-3.ensures.1 c.in_err-text_at-in-3.ensures.exact
+
+pub returns-in_ok-text_at-in-3 : goal.returns-in_ok-text_at-in-3
+unfolding with_text
+returns-in_ok-text_at-in-3 c =
+    text_told c.args.info c.args.sequence c.args.«data».now _ c.in_ok-text_at-in-3.field-0 (omega arith) (omega arith) (omega arith)
+    c.in_ok-text_at-in-3.ensures.exact (rw c.in-3.is refl)
+
+pub returns-in_err-text_at-in-4 : goal.returns-in_err-text_at-in-4
+returns-in_err-text_at-in-4 c =
+    text_refused c.args.info c.args.sequence c.args.«data».now c.from_residual-in_err-text_at-in-4.result _ (omega arith) (omega arith) (omega arith)
+    c.from_residual-in_err-text_at-in-4.ensures.1 c.in_err-text_at-in-4.ensures.exact
+
+pub returns-in_ok-text_at-in-4 : goal.returns-in_ok-text_at-in-4
+unfolding with_text
+returns-in_ok-text_at-in-4 c =
+    text_told c.args.info c.args.sequence c.args.«data».now _ c.in_ok-text_at-in-4.field-0 (omega arith) (omega arith) (omega arith)
+    c.in_ok-text_at-in-4.ensures.exact (rw c.in-4.is refl)
+
+pub returns-in_err-text_at-in-5 : goal.returns-in_err-text_at-in-5
+returns-in_err-text_at-in-5 c =
+    text_refused c.args.info c.args.sequence c.args.«data».now c.from_residual-in_err-text_at-in-5.result _ (omega arith) (omega arith) (omega arith)
+    c.from_residual-in_err-text_at-in-5.ensures.1 c.in_err-text_at-in-5.ensures.exact
+
+pub returns-in_ok-text_at-in-5 : goal.returns-in_ok-text_at-in-5
+unfolding with_text
+returns-in_ok-text_at-in-5 c =
+    text_told c.args.info c.args.sequence c.args.«data».now _ c.in_ok-text_at-in-5.field-0 (omega arith) (omega arith) (omega arith)
+    c.in_ok-text_at-in-5.ensures.exact (rw c.in-5.is refl)

@@ -24,7 +24,5 @@ returns g c =
     let n : c.loop-i.i ≡ c.entries_read-i-end.result = omega arith in
     let e : c.loop-i.places ≡ sets c.resize.new.places (get_or d (at + 1) 0) (entries_from entry_at (at + 3) c.entries_read-i-end.result) =
     c.loop-i.invariant ∙ ap₂ (λ first k. sets c.resize.new.places first (entries_from entry_at (at + 3) k)) c.from-first.ensures n in
-    record {
-      added = ap (λ l. record { sized = c.resize.new.sized; size = c.resize.new.size; places = l }) e
-          ∙ part_filled g.E.Entry.blank entry_at d at c.entries_read-i-end.result p q c.entries_read-i-end.ensures c.resize.ensures.resized;
-    }
+    ap (λ l. record { sized = c.resize.new.sized; size = c.resize.new.size; places = l }) e
+    ∙ part_filled g.E.Entry.blank entry_at d at c.entries_read-i-end.result p q c.entries_read-i-end.ensures c.resize.ensures

@@ -4,8 +4,11 @@ use Rattle.transcript.specs.Log.{Log, log, sized}
 use Rattle.transcript.specs.Lent.{area_closed}
 use Rattle.transcript.proofs.answer.Transcript.close_area.Goals as goal
 
-pub returns-in-Ok-clause-told : goal.returns-in-Ok-clause-told
+pub returns-in-Ok : goal.returns-in-Ok
 unfolding area_closed
-returns-in-Ok-clause-told c =
+returns-in-Ok c =
     let a = c.args.area in
-    rw c.in-Ok.is (c.close.ensures.told ∙ rw c.answer.ensures (ap (λ (l : Log). log a.end (sized l.text a.body a.end)) c.put_count.ensures.told))
+    record {
+      told = rw c.in-Ok.is (c.close.ensures.told ∙ rw c.answer.ensures (ap (λ (l : Log). log a.end (sized l.text a.body a.end)) c.put_count.ensures.told));
+      same_slice = c.close.ensures.same_slice ∙ c.put_count.ensures.same_slice;
+    }

@@ -7,7 +7,7 @@ pub returns-clause-told : goal.returns-clause-told
 returns-clause-told c =
     let a = c.args in
     rw (c.open-answer.ensures.answer, c.place-start.ensures, c.place.ensures)
-    (opened_said a.op a.before.now a.room (told a.self.now) _ _ _ _ c.keep_inside.ensures.told c.open-answer.ensures.told c.put_bytes.ensures.told c.fill.ensures.told)
+    (opened_said a.op a.before.now a.room (told a.self.now) _ _ _ _ c.keep_inside.ensures.told c.open-answer.ensures.tells.told c.put_bytes.ensures.told c.fill.ensures.told)
 
 pub returns-clause-lies : goal.returns-clause-lies
 returns-clause-lies c =
