@@ -2,40 +2,44 @@
 use Rattle.std.specs.Prelude.{ℕ, ◌≡◌, Bool, not, ◌&&◌, List, take, get_or}
 use Rattle.std.proofs.Common.{refl}
 use Rattle.numbers.specs.Layout.{is_set}
-use Rattle.phases.specs.Sync.{kind}
-use Rattle.tx_list.specs.Views.{has, Answer, enabled, there, denied, is_good, is_there, is_denied, is_fresh, answer_of}
+use Rattle.session.specs.Sync.{kind}
+use denote.Enum.Bare.{sameb}
+use Rattle.views.specs.contracts.EnableResult.{the_type}
+use Rattle.views.specs.declared.EnableResult.{EnableResult}
+use Rattle.views.specs.declared.EnableResult.TheVariants.{Now, Already, Refused}
+use Rattle.views.specs.Told.{told_result}
+use Rattle.tx_list.specs.Views.{has, is_good, is_there, is_denied, is_fresh, answer_of}
 use Rattle.tx_list.specs.Changed.{push_if}
 use Rattle.tx_list.specs.Moves.{marks}
 use Rattle.tx_list.specs.declared.State.{State}
 use Rattle.helm.specs.declared.stored.Numbers.{Numbers}
-use Rattle.helm.specs.declared.stored.Which.TheVariants.{Known, Present, Refused, Fresh}
+use Rattle.helm.specs.declared.stored.Which.TheVariants as which
 use Rattle.helm.specs.Stored.{Stored, buffer_of, with_array, session_at}
-use Rattle.helm.specs.Steps.{passed_by}
 
--- the tests of an answer
-pub good_by : (a : Answer) → (passed_by a).good ≡ is_good a
+-- the tests of an answer: an answer is compared with one of the three
+pub good_by : (r : EnableResult) → not (sameb the_type r Refused) ≡ is_good (told_result r)
 unfolding is_good
-good_by enabled = refl
-good_by there = refl
-good_by denied = refl
+good_by Now = refl
+good_by Already = refl
+good_by Refused = refl
 
-pub there_by : (a : Answer) → (passed_by a).there ≡ is_there a
+pub there_by : (r : EnableResult) → sameb the_type r Already ≡ is_there (told_result r)
 unfolding is_there
-there_by enabled = refl
-there_by there = refl
-there_by denied = refl
+there_by Now = refl
+there_by Already = refl
+there_by Refused = refl
 
-pub denied_by : (a : Answer) → not (passed_by a).good ≡ is_denied a
+pub denied_by : (r : EnableResult) → sameb the_type r Refused ≡ is_denied (told_result r)
 unfolding is_denied
-denied_by enabled = refl
-denied_by there = refl
-denied_by denied = refl
+denied_by Now = refl
+denied_by Already = refl
+denied_by Refused = refl
 
-pub fresh_by : (a : Answer) (p : ℕ) (l : List ℕ) → ((passed_by a).now && not (has p l)) ≡ is_fresh a p l
+pub fresh_by : (r : EnableResult) (p : ℕ) (l : List ℕ) → (sameb the_type r Now && not (has p l)) ≡ is_fresh (told_result r) p l
 unfolding is_fresh
-fresh_by enabled p l = refl
-fresh_by there p l = refl
-fresh_by denied p l = refl
+fresh_by Now p l = refl
+fresh_by Already p l = refl
+fresh_by Refused p l = refl
 
 -- the lists after an answer, each pushed to where its test passed
 pub marked_by :
@@ -45,16 +49,16 @@ pub marked_by :
     → b ≡ is_there (answer_of m)
     → c ≡ is_denied (answer_of m)
     → d ≡ is_fresh (answer_of m) p (take n.saved s.saved)
-    → t ≡ with_array s Known (push_if a (buffer_of Known n.known s) p).items
-    → u ≡ with_array t Present (push_if b (buffer_of Present n.present t) p).items
-    → v ≡ with_array u Refused (push_if c (buffer_of Refused n.refused u) p).items
-    → w ≡ with_array v Fresh (push_if d (buffer_of Fresh n.fresh v) p).items
+    → t ≡ with_array s which.Known (push_if a (buffer_of which.Known n.known s) p).items
+    → u ≡ with_array t which.Present (push_if b (buffer_of which.Present n.present t) p).items
+    → v ≡ with_array u which.Refused (push_if c (buffer_of which.Refused n.refused u) p).items
+    → w ≡ with_array v which.Fresh (push_if d (buffer_of which.Fresh n.fresh v) p).items
     → session_at st
     (record n {
-      known = (push_if a (buffer_of Known n.known s) p).n;
-      present = (push_if b (buffer_of Present n.present t) p).n;
-      refused = (push_if c (buffer_of Refused n.refused u) p).n;
-      fresh = (push_if d (buffer_of Fresh n.fresh v) p).n;
+      known = (push_if a (buffer_of which.Known n.known s) p).n;
+      present = (push_if b (buffer_of which.Present n.present t) p).n;
+      refused = (push_if c (buffer_of which.Refused n.refused u) p).n;
+      fresh = (push_if d (buffer_of which.Fresh n.fresh v) p).n;
     })
     w
     ≡ marks kind (session_at st n s) m (answer_of m)

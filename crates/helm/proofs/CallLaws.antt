@@ -24,16 +24,20 @@ use Rattle.tx_list.proofs.LiveLists.{false_true}
 use borrow.Author.Tests.{not-true}
 use Rattle.tx_list.proofs.MovesSound.{sound_is}
 use Rattle.tx_list.proofs.MovesLaws.{message_law, tick_law, firmware_law, restart_law, abandon_law}
-use Rattle.phases.specs.Sync.{Sync, Begun, kind, same, store, frame_of, Told, step_of, wrote_step}
-use Rattle.phases.specs.Lent.{minds_in}
-use Rattle.phases.proofs.CallLaws.{unsound, judged, tick_taken, message_taken}
+use Rattle.session.specs.Sync.{Sync, Begun, kind, same, store, frame_of, Told, step_of, wrote_step}
+use Rattle.session.specs.Lent.{minds_in}
+use Rattle.session.proofs.CallLaws.{unsound, judged, tick_taken, message_taken}
 use Rattle.std.proofs.lemmas.Bool.Decides.{nat_tests}
 use Rattle.helm.proofs.Calm.{calm_sound}
 use Rattle.helm.proofs.HeardLaws.{within, heard_same, heard_quiet, full_quiet}
 use Rattle.helm.specs.declared.words.Refusal.TheVariants.{NotWellFormed}
 use Rattle.helm.specs.declared.stored.Numbers.{Numbers}
 use Rattle.helm.specs.Stored.{Stored, HasSizes, FitLimits, kind_of, session_in, counts_of, is_well_formed, is_calm, rests_on, ignores_on}
-use Rattle.helm.specs.Calls.{store_of, gave, begun, told, refused_phase, called, set_to, restarted, abandoned, is_session, state_of, says, lack_of, idle_at, ignored_at}
+use Rattle.helm.specs.Calls.{Holds, store_of, gave, begun, told, refused_phase, called, set_to, restarted, abandoned, is_session, state_of, says, lack_of, idle_at, ignored_at}
+
+-- the test of a state, of memory that holds the numbers tested
+pub formed_by : {l : Limits} {n : Numbers} {s : Stored} {r b : Bool} → Holds l n s → (FitLimits l → r ≡ is_well_formed l n) → r ≡ b → is_well_formed l s.numbers ≡ b
+formed_by {l} z e q = ap (is_well_formed l) z.numbers ∙ sym (e z.fit) ∙ q
 
 -- the phases, one by one
 pub each_phase : (P : ℕ → Type 0) → P 0 → P 1 → P 2 → P 3 → P 4 → P 5 → P 6 → P 7 → (p : ℕ) → p ≤ 7 → P p

@@ -14,25 +14,15 @@ use Rattle.views.specs.ViewsLaws.{f1_other, f2_other}
 use Rattle.tx_list.proofs.LiveLists.{false_true}
 use Rattle.tx_list.specs.declared.State.{State}
 use Rattle.tx_list.specs.declared.State.TheVariants.{AwaitStartup, ReadAt, ReadingF2, Reading as ReadingF1, Enabling, Committing, Activating, Done}
-use Rattle.tx_list.specs.Views.{parsed, no_error, F1, adds, ends, f1_of, added, F2, wrong, part, neither, f2_of, is_answer, Ack, good, bad, nothing, ack_by, ack_of}
-use Rattle.tx_list.specs.Moves.{stays, waits_from, asks, answered, goes_on, committed, activated, in_f1, in_f2, in_whole, heard, full_in}
-use Rattle.phases.specs.Sync.{Sync, kind, put, Stepped, step_of}
-use Rattle.phases.specs.Lent.{minds_in}
+use Rattle.tx_list.specs.Views.{parsed, no_error, F1, adds, ends, f1_of, added, F2, wrong, part, neither, f2_of, is_answer, answer_of, Ack, good, bad, nothing, ack_by, ack_of}
+use Rattle.tx_list.specs.Moves.{stays, waits_from, asks, marks, answered, goes_on, committed, activated, in_f1, in_f2, in_whole, heard, full_in}
+use Rattle.session.specs.AnswersLaws.{enabling_answer, committing_answer, activating_answer}
+use Rattle.session.specs.Sync.{Sync, kind, put, Stepped, step_of}
+use Rattle.session.specs.Lent.{minds_in}
 use Rattle.lists.specs.Format2.{pgns_of}
 use Rattle.helm.specs.declared.stored.Numbers.{Numbers}
-use Rattle.helm.specs.Stored.{Stored, kind_of, counts_of, is_well_formed, session_at, session_of}
-
--- each count is within its list
-pub record Within (l : Limits) (n : Numbers) : Type 0 where
-  pub wanted : n.wanted ≤ l.wanted
-  pub owed : n.owed ≤ l.wanted
-  pub fresh : n.fresh ≤ l.wanted
-  pub list : n.list ≤ l.list
-  pub proprietary : n.proprietary ≤ 512
-  pub known : n.known ≤ l.known
-  pub saved : n.saved ≤ 256
-  pub present : n.present ≤ 256
-  pub refused : n.refused ≤ 256
+use Rattle.helm.specs.Stored.{Stored, Within, kind_of, counts_of, is_well_formed, session_at, session_of}
+use Rattle.helm.specs.Steps.{minded, heard_by}
 
 pub within : (l : Limits) (n : Numbers) → is_well_formed l n ≡ true → Within l n
 within l n e =
@@ -155,35 +145,52 @@ full_quiet l Committing h m w e = refl
 full_quiet l Activating h m w e = refl
 full_quiet l Done h m w e = refl
 
--- a message of interest, by the phase
-module _ (h : Sync) (t : ℕ) (m : List ℕ) where
-  pub hears_mode : minds_in AwaitStartup m ≡ true → waits_from kind h t ≡ heard kind AwaitStartup h t m
+minds_by : (n : Numbers) (m : List ℕ) {p : State} → state_of n.phase n.attempt ≡ p → minded n m ≡ true → minds_in p m ≡ true
+minds_by n m e k = ap (λ (st : State). minds_in st m) (sym e) ∙ k
+
+-- a message of interest, by the phase: what the code of that phase does is what the message does
+module _ (l : Limits) (s : Stored) (n : Numbers) (t : ℕ) (m : List ℕ) {r : Stepped} where
+  lands : {p : State} → state_of n.phase n.attempt ≡ p → r ≡ step_of (heard kind p (session_at p n s) t m) → r ≡ heard_by l n s t m
+  lands e h =
+      h
+      ∙ ap (λ (st : State). step_of (heard kind st (session_at st n s) t m)) (sym e)
+      ∙ ap step_of (sym (heard_same l (session_of n s) t (state_of n.phase n.attempt) m))
+
+  pub heard_mode : state_of n.phase n.attempt ≡ AwaitStartup → minded n m ≡ true → r ≡ step_of (waits_from kind (session_at AwaitStartup n s) t)
+      → r ≡ heard_by l n s t m
   unfolding heard minds_in
-  hears_mode e = sym (ap (λ (y : Bool). pick y (waits_from kind h t) (stays h)) e)
+  heard_mode e k h =
+      lands e (h ∙ sym (ap (λ (y : Bool). step_of (pick y (waits_from kind (session_at AwaitStartup n s) t) (stays (session_at AwaitStartup n s)))) (minds_by n m e k)))
 
-  pub hears_f1 : (a : ℕ) → in_f1 kind (f1_of m) h t ≡ heard kind (ReadingF1 a) h t m
-  unfolding heard
-  hears_f1 a = refl
-
-  pub hears_f2 : (a : ℕ) → in_f2 kind (f2_of m) h t m ≡ heard kind (ReadingF2 a) h t m
-  unfolding heard
-  hears_f2 a = refl
-
-  pub never_waiting : minds_in ReadAt m ≡ true → ⊥
+  pub heard_too_soon : state_of n.phase n.attempt ≡ ReadAt → minded n m ≡ true → r ≡ heard_by l n s t m
   unfolding minds_in
-  never_waiting e = false_true e
+  heard_too_soon e k = absurd (false_true (minds_by n m e k))
 
-  pub never_done : minds_in Done m ≡ true → ⊥
+  pub heard_f1 : {a : ℕ} → state_of n.phase n.attempt ≡ ReadingF1 a → r ≡ step_of (in_f1 kind (f1_of m) (session_at (ReadingF1 a) n s) t)
+      → r ≡ heard_by l n s t m
+  unfolding heard
+  heard_f1 e h = lands e h
+
+  pub heard_f2 : {a : ℕ} → state_of n.phase n.attempt ≡ ReadingF2 a → r ≡ step_of (in_f2 kind (f2_of m) (session_at (ReadingF2 a) n s) t m)
+      → r ≡ heard_by l n s t m
+  unfolding heard
+  heard_f2 e h = lands e h
+
+  pub heard_enabled : state_of n.phase n.attempt ≡ Enabling → minded n m ≡ true
+      → r ≡ step_of (goes_on kind (marks kind (session_at Enabling n s) m (answer_of m)) t) → r ≡ heard_by l n s t m
   unfolding minds_in
-  never_done e = false_true e
+  heard_enabled e k h = lands e (h ∙ ap step_of (sym (enabling_answer (session_at Enabling n s) t m (minds_by n m e k))))
 
--- the phase of an arm is the state's, and a message does the same at every limits
-pub lands :
-    (l : Limits) (n : Numbers) (s : Stored) (t : ℕ) (m : List ℕ) {p : State} {r : Stepped}
-    → state_of n.phase n.attempt ≡ p
-    → r ≡ step_of (heard kind p (session_at p n s) t m)
-    → r ≡ step_of (heard (kind_of l) (state_of n.phase n.attempt) (session_of n s) t m)
-lands l n s t m e h =
-    h
-    ∙ ap (λ (st : State). step_of (heard kind st (session_at st n s) t m)) (sym e)
-    ∙ ap step_of (sym (heard_same l (session_of n s) t (state_of n.phase n.attempt) m))
+  pub heard_committed : state_of n.phase n.attempt ≡ Committing → minded n m ≡ true → r ≡ step_of (committed kind good (session_at Committing n s) t)
+      → r ≡ heard_by l n s t m
+  unfolding minds_in
+  heard_committed e k h = lands e (h ∙ ap step_of (sym (committing_answer (session_at Committing n s) t m (minds_by n m e k))))
+
+  pub heard_activated : state_of n.phase n.attempt ≡ Activating → minded n m ≡ true → r ≡ step_of (activated kind good (session_at Activating n s) t)
+      → r ≡ heard_by l n s t m
+  unfolding minds_in
+  heard_activated e k h = lands e (h ∙ ap step_of (sym (activating_answer (session_at Activating n s) t m (minds_by n m e k))))
+
+  pub heard_done : state_of n.phase n.attempt ≡ Done → minded n m ≡ true → r ≡ heard_by l n s t m
+  unfolding minds_in
+  heard_done e k = absurd (false_true (minds_by n m e k))

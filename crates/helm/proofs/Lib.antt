@@ -1,10 +1,11 @@
 -- Laws that the functions' proofs cite.
 pub mod Calm
 pub mod ListLaws
-pub mod StoredLaws
 pub mod AnswerLaws
 pub mod ReadLaws
 pub mod PartLaws
 pub mod HeardLaws
 pub mod CallLaws
+pub mod BegunLaws
 pub mod RunLaws
+pub mod LinkLaws

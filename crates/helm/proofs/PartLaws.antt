@@ -11,8 +11,8 @@ use Rattle.lists.specs.Format2Laws.{told_whole, told_partial, told_refused}
 use Rattle.lists.proofs.Format2Proofs.{pgns_767, listed_told}
 use Rattle.field.specs.WrittenLaws.{sets_written}
 use Rattle.std.proofs.lemmas.List.Edits.{sets}
-use Rattle.phases.specs.Sync.{put}
-use Rattle.phases.specs.ReadingLaws.{put_formed, front_read}
+use Rattle.session.specs.Sync.{put}
+use Rattle.session.specs.ReadingLaws.{put_formed, front_read}
 use Rattle.helm.specs.declared.stored.Numbers.{Numbers}
 use Rattle.helm.specs.Stored.{parts_of}
 use Rattle.helm.specs.Steps.{Listed}

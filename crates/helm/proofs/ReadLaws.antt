@@ -16,9 +16,9 @@ use Rattle.tx_list.specs.declared.State.{State}
 use Rattle.tx_list.specs.declared.State.TheVariants.{Enabling, Done}
 use Rattle.pgns.specs.Lists.{told, owed_from, owed_in}
 use Rattle.pgns.specs.Turns.{least_le, owed_room}
-use Rattle.phases.specs.Sync.{Sync, kind, Known, Stepped, step_of}
-use Rattle.phases.specs.ReadingLaws as laws
-use Rattle.phases.specs.ReadingLaws.{list_none, list_some, none_written, known_as}
+use Rattle.session.specs.Sync.{Sync, kind, Known, Stepped, step_of}
+use Rattle.session.specs.ReadingLaws as laws
+use Rattle.session.specs.ReadingLaws.{list_none, list_some, none_written, known_as}
 use Rattle.helm.specs.declared.stored.Numbers.{Numbers}
 use Rattle.helm.specs.declared.stored.Which.TheVariants.{Known as K, Owed}
 use Rattle.helm.specs.Stored.{Stored, with_array, session_at}

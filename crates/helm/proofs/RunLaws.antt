@@ -9,8 +9,8 @@ use Rattle.tx_list.specs.Stored.{Faithful}
 use Rattle.tx_list.specs.Memory.{clear_flat}
 use Rattle.tx_list.proofs.Demand3.{Lawful}
 use Rattle.tx_list.proofs.MemoryFaithful.{store_faithful, clear_sized, clear_counted}
-use Rattle.phases.specs.Sync.{Sync, same, frame_of}
-use Rattle.phases.specs.ReadingLaws.{put_formed}
+use Rattle.session.specs.Sync.{Sync, same, frame_of}
+use Rattle.session.specs.ReadingLaws.{put_formed}
 use Rattle.helm.specs.Stored.{FitLimits, kind_of}
 use Rattle.helm.specs.Calls.{store_of}
 

@@ -1,5 +1,5 @@
 -- What each call of a session in memory answers and leaves. Assumes nothing.
-use Rattle.std.specs.Prelude.{ℕ, Bool, not, ◌&&◌, List, leb, ltb, length, Result, Ok, Err, Option, Some, None}
+use Rattle.std.specs.Prelude.{ℕ, ◌≡◌, Bool, not, ◌&&◌, List, leb, ltb, length, Result, Ok, Err, Option, Some, None}
 use Rattle.field.specs.Pick.{pick}
 use Rattle.field.specs.Written.{written}
 use Rattle.lists.specs.declared.F2List.{F2List}
@@ -13,15 +13,16 @@ use Rattle.tx_list.specs.Session.{Session, all_le}
 use Rattle.tx_list.specs.Stored as stored
 use Rattle.tx_list.specs.Stored.{Store, CallAnswer, new, again, opens}
 use Rattle.tx_list.specs.Memory.{abs_flat, counts, store_by, clear_flat}
-use Rattle.phases.specs.Sync.{Sync, same, frame_of, Told, Begun}
+use Rattle.session.specs.Sync.{Sync, same, frame_of, Told, Begun}
 use Rattle.helm.specs.declared.words.Refusal.{Refusal}
 use Rattle.helm.specs.declared.words.Refusal.TheVariants.{NotWellFormed}
 use Rattle.helm.specs.declared.words.Lack.{Lack}
 use Rattle.helm.specs.Words.{refusal_number, told_lack}
 use Rattle.numbers.specs.Layout.{due_in}
+use Rattle.helm.specs.declared.calls.Ticked.{Ticked}
 use Rattle.helm.specs.declared.stored.Numbers.{Numbers}
 use Rattle.helm.specs.Steps.{minded}
-use Rattle.helm.specs.Stored.{Stored, kind_of, session_in, session_of, counts_of, opened_with, is_well_formed}
+use Rattle.helm.specs.Stored.{Stored, HasSizes, FitLimits, kind_of, session_in, session_of, counts_of, opened_with, is_well_formed}
 
 -- a session in arrays and counts, as a store of the model's (tx_list/specs/Stored), at a machine's limits
 abbrev pub store_of : (l : Limits) → Store (kind_of l)
@@ -44,6 +45,29 @@ told (Err e) s out = record { number = refusal_number e; count = 0; sync = sessi
 abbrev pub told_done : {A : Type 0} → Result A Refusal → Stored → Begun
 told_done (Ok u) s = record { number = 0; sync = session_in s }
 told_done (Err e) s = record { number = refusal_number e; sync = session_in s }
+
+-- Calls over the numbers alone, whatever memory the arrays lie in
+
+-- memory of a machine with these limits, which holds these numbers
+pub record Holds (l : Limits) (n : Numbers) (s : Stored) : Type 0 where
+  pub fit : FitLimits l
+  pub sizes : HasSizes l s
+  pub numbers : s.numbers ≡ n
+
+-- what is left of the session, once the numbers of a call that was taken are stored; in a refusal nothing is
+abbrev pub told_numbers : Result Numbers Refusal → Stored → Begun
+told_numbers (Ok n) s = record { number = 0; sync = session_of n s }
+told_numbers (Err e) s = record { number = refusal_number e; sync = session_in s }
+
+-- the same of begin, once these PGNs are written over the array of the wanted ones too
+abbrev pub told_opened : Result Numbers Refusal → Stored → List ℕ → Begun
+told_opened (Ok n) s want = record { number = 0; sync = session_of n (record s { wanted = sets s.wanted 0 want }) }
+told_opened (Err e) s want = record { number = refusal_number e; sync = session_in s }
+
+-- the same of a tick, with the output
+abbrev pub told_ticked : Result Ticked Refusal → Stored → List ℕ → Told
+told_ticked (Ok t) s out = record { number = 0; count = t.count; sync = session_of t.numbers s; out = out }
+told_ticked (Err e) s out = record { number = refusal_number e; count = 0; sync = session_in s; out = out }
 
 -- a phase over 7 is none: 16, and nothing changes
 abbrev pub refused_phase : Stored → Begun

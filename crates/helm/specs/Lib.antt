@@ -5,3 +5,6 @@ pub mod Arrays
 pub mod Steps
 pub mod Calls
 pub mod Machines
+pub mod PlayedLaws
+pub mod StoredLaws
+pub mod Linked

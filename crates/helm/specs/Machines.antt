@@ -1,12 +1,17 @@
 -- The machine: its limits, and what it holds. Assumes nothing.
-use Rattle.std.specs.Prelude.{ℕ, ◌%◌, List, ltb, get_or, true, replicate}
+use Rattle.std.specs.Prelude.{ℕ, ◌%◌, List, ltb, get_or, true, replicate, Result, Ok, Err, ◌≡◌, [], ◌∷◌, Option, Some, None}
+use Rattle.std.specs.Borrow.{GName}
 use Rattle.field.specs.Pick.{pick}
+use Rattle.lists.specs.declared.F2List.{F2List}
 use Rattle.lists.specs.Format2.{no_parts}
 use Rattle.bounds.specs.declared.Limits.{Limits}
 use Rattle.helm.specs.declared.stored.Numbers.{Numbers}
 use Rattle.helm.specs.declared.machines.Helm.{Helm}
 use Rattle.helm.specs.declared.lent.Lent.{Lent}
-use Rattle.helm.specs.Stored.{Stored}
+use Rattle.session.specs.Sync.{Begun, clear}
+use Rattle.helm.specs.declared.words.Refusal.{Refusal}
+use Rattle.helm.specs.Words.{refusal_number}
+use Rattle.helm.specs.Stored.{Stored, session_in}
 
 -- "capacity (.. wanted, owed, fresh 64; list 1,024 ..)"
 abbrev pub helm_limits : Limits
@@ -25,6 +30,7 @@ helm_stored m =
       present = m.present;
       refused = m.refused;
       parts = m.parts;
+      loans = [];
     }
 
 -- no session and no record: all of it 0, and no part of Format 2
@@ -60,7 +66,13 @@ helm_blank =
       present = replicate 256 0;
       refused = replicate 256 0;
       parts = no_parts;
+      loans = [];
     }
+
+-- what `Helm::begun` answers: the session that the machine holds, or the number of the refusal, which leaves no session
+abbrev pub told_begun : Result Helm Refusal → Begun
+told_begun (Ok h) = record { number = 0; sync = session_in (helm_stored h) }
+told_begun (Err e) = record { number = refusal_number e; sync = clear }
 
 -- a number of 32 bits, of 16; one that has more is the largest: over every count, no phase, and set as a flag
 abbrev pub word : ℕ → ℕ
@@ -92,8 +104,28 @@ numbers_in n =
       blank = half (get_or n 16 0);
     }
 
-abbrev pub lent_stored : Lent → Stored
-lent_stored m =
+-- the references of a lent session
+abbrev pub loans_of : Lent → List GName
+loans_of m =
+    m.numbers.ghost_name
+    ∷ m.wanted.ghost_name
+    ∷ m.owed.ghost_name
+    ∷ m.fresh.ghost_name
+    ∷ m.list.ghost_name
+    ∷ m.known.ghost_name
+    ∷ m.saved.ghost_name
+    ∷ m.present.ghost_name
+    ∷ m.refused.ghost_name
+    ∷ []
+
+-- the parts of Format 2; where none are lent, none is in hand
+abbrev pub parts_lent : Option F2List → F2List
+parts_lent None = no_parts
+parts_lent (Some parts) = parts
+
+-- what stands behind them
+abbrev pub lent_plain : Lent → Stored
+lent_plain m =
     record {
       numbers = numbers_in m.numbers.now;
       wanted = m.wanted.now;
@@ -104,5 +136,21 @@ lent_stored m =
       saved = m.saved.now;
       present = m.present.now;
       refused = m.refused.now;
-      parts = m.parts.now;
+      parts = parts_lent m.parts;
+      loans = [];
     }
+
+abbrev pub lent_stored : Lent → Stored
+lent_stored m = record (lent_plain m) { loans = loans_of m }
+
+-- one holds the references of the other, each in its place: what the one ends with, the lender finds
+pub record SameLoans (a b : Lent) : Type 0 where
+  pub numbers : a.numbers.ghost_name ≡ b.numbers.ghost_name
+  pub wanted : a.wanted.ghost_name ≡ b.wanted.ghost_name
+  pub owed : a.owed.ghost_name ≡ b.owed.ghost_name
+  pub fresh : a.fresh.ghost_name ≡ b.fresh.ghost_name
+  pub list : a.list.ghost_name ≡ b.list.ghost_name
+  pub known : a.known.ghost_name ≡ b.known.ghost_name
+  pub saved : a.saved.ghost_name ≡ b.saved.ghost_name
+  pub present : a.present.ghost_name ≡ b.present.ghost_name
+  pub refused : a.refused.ghost_name ≡ b.refused.ghost_name

@@ -1,9 +1,8 @@
 -- What a step of the code sends and leaves, in the terms of module 6. Assumes nothing.
-use Rattle.std.specs.Prelude.{ℕ, ◌+◌, ◌≤◌, ◌≡◌, length, take, Bool, true, false, List, [], ◌∷◌, get_or}
+use Rattle.std.specs.Prelude.{ℕ, ◌+◌, ◌≤◌, ◌≡◌, length, take, Bool, List, [], ◌∷◌, Option, get_or}
 use Rattle.tx_list.specs.Reading.{enable}
 use Rattle.tx_list.specs.declared.State.TheVariants.{Enabling, Done}
 use Rattle.helm.specs.declared.stored.Numbers.{Numbers}
-use Rattle.tx_list.specs.Views.{Answer, enabled, there, denied}
 use Rattle.std.proofs.Math.Option.{some}
 use Rattle.lists.specs.declared.F2List.{F2List}
 use Rattle.lists.specs.Format2.{pgns_of}
@@ -13,28 +12,21 @@ use Rattle.std.proofs.lemmas.List.Edits.{sets}
 use Rattle.bounds.specs.declared.Limits.{Limits}
 use Rattle.tx_list.specs.Moves.{gets, full_in, heard}
 use Rattle.tx_list.specs.declared.State.{State}
-use Rattle.phases.specs.Lent.{minds_in}
-use Rattle.phases.specs.Sync.{kind, store, Stepped, step_of}
+use Rattle.session.specs.Lent.{minds_in}
+use Rattle.session.specs.Sync.{kind, store, Stepped, step_of}
 use Rattle.helm.specs.declared.stored.Which.TheVariants.{Known}
-use Rattle.helm.specs.declared.words.Sent.{Sent}
+use Rattle.commands.specs.declared.Command.{Command}
 use Rattle.helm.specs.declared.steps.Step.{Step}
-use Rattle.helm.specs.declared.answers.Passed.{Passed}
 use Rattle.helm.specs.Words.{commands_of}
 use Rattle.helm.specs.Stored.{Stored, kind_of, session_at, session_of, with_array}
 
 -- the bytes of a call's commands on the wire, end to end: a command's frame is the same on every machine
-abbrev pub bytes_of : Sent → List ℕ
+abbrev pub bytes_of : Option Command → List ℕ
 bytes_of x = stored.wire kind store (commands_of x)
 
 -- a step's commands, and the session that it leaves in these arrays
 abbrev pub told_step : Step → Stored → Stepped
 told_step r s = record { sent = commands_of r.sent; sync = session_at r.state r.numbers s }
-
--- what an answer to an enable command passes: good, error 0, already there
-abbrev pub passed_by : Answer → Passed
-passed_by enabled = record { good = true; now = true; there = false }
-passed_by there = record { good = true; now = false; there = true }
-passed_by denied = record { good = false; now = false; there = false }
 
 -- a list is known, and nothing is owed: done
 abbrev pub asked_none : Numbers → ℕ → Stored → Stepped

@@ -1,22 +1,24 @@
 -- A session as it lies in memory, the session of module 6 that it holds, and whether it holds one. Assumes nothing.
-use Rattle.std.specs.Prelude.{ℕ, ◌+◌, ◌<◌, ◌≤◌, ◌^◌, ◌≡◌, Bool, true, false, not, ◌&&◌, ◌||◌, List, length, eqb, leb, ltb}
+use Rattle.std.specs.Prelude.{ℕ, ◌+◌, ◌<◌, ◌≤◌, ◌^◌, ◌≡◌, Bool, true, false, not, ◌&&◌, ◌||◌, List, length, take, eqb, leb, ltb}
+use Rattle.std.specs.Borrow.{GName}
 use Rattle.field.specs.Pick.{pick}
 use Rattle.lists.specs.declared.F2List.{F2List}
 use Rattle.lists.specs.Format2.{no_parts, pgns_of, formed}
 use Rattle.bounds.specs.declared.Limits.{Limits}
 use Rattle.bounds.specs.declared.Counts.{Counts}
 use Rattle.bounds.specs.Bounds.{sound_at}
-use Rattle.numbers.specs.Layout.{is_set, state_of, phase_of, attempt_of}
+use Rattle.numbers.specs.Layout.{is_set, one, state_of, phase_of, attempt_of}
 use Rattle.tx_list.specs.Reading.{Kind}
 use Rattle.tx_list.specs.Memory.{Buf}
 use Rattle.tx_list.specs.declared.State.{State}
-use Rattle.phases.specs.Sync.{Sync, put}
-use Rattle.phases.specs.Lent.{counted, minds_in}
+use Rattle.session.specs.Sync.{Sync, put}
+use Rattle.session.specs.Lent.{counted, minds_in}
 use Rattle.helm.specs.declared.stored.Numbers.{Numbers}
 use Rattle.helm.specs.declared.stored.Which.{Which}
 use Rattle.helm.specs.declared.stored.Which.TheVariants.{Wanted, Owed, Fresh, List as L, Known, Saved, Present, Refused}
 
--- the numbers, the arrays whole, and the parts of Format 2
+-- the numbers, the arrays whole, and the parts of Format 2; and which references they lie behind, where a machine holds references: no call
+-- puts others in their place
 pub record Stored : Type 0 where
   pub numbers : Numbers
   pub wanted : List ℕ
@@ -28,6 +30,7 @@ pub record Stored : Type 0 where
   pub present : List ℕ
   pub refused : List ℕ
   pub parts : F2List
+  pub loans : List GName
 
 abbrev pub array_of : Which → Stored → List ℕ
 array_of Wanted s = s.wanted
@@ -38,6 +41,21 @@ array_of Known s = s.known
 array_of Saved s = s.saved
 array_of Present s = s.present
 array_of Refused s = s.refused
+
+-- how many PGNs a list holds, by its count
+abbrev pub count_of : Which → Numbers → ℕ
+count_of Wanted n = n.wanted
+count_of Owed n = n.owed
+count_of Fresh n = n.fresh
+count_of L n = n.list
+count_of Known n = n.known
+count_of Saved n = n.saved
+count_of Present n = n.present
+count_of Refused n = n.refused
+
+-- the PGNs of a list: as many as its count says, and as far as its array goes
+abbrev pub pgns_in : Which → Stored → List ℕ
+pgns_in w s = take (count_of w s.numbers) (array_of w s)
 
 abbrev pub with_array : Stored → Which → List ℕ → Stored
 with_array s Wanted a = record s { wanted = a }
@@ -80,6 +98,18 @@ pub record HasSizes (l : Limits) (s : Stored) : Type 0 where
   pub present : length s.present ≡ 256
   pub refused : length s.refused ≡ 256
 
+-- each count is within its list
+pub record Within (l : Limits) (n : Numbers) : Type 0 where
+  pub wanted : n.wanted ≤ l.wanted
+  pub owed : n.owed ≤ l.wanted
+  pub fresh : n.fresh ≤ l.wanted
+  pub list : n.list ≤ l.list
+  pub proprietary : n.proprietary ≤ 512
+  pub known : n.known ≤ l.known
+  pub saved : n.saved ≤ 256
+  pub present : n.present ≤ 256
+  pub refused : n.refused ≤ 256
+
 -- what the limits of a machine are: at most 64 wanted, a known list with room for a list read, a list of the record and what is wanted, and,
 -- where Format 2 is read, a list with room for the 767 PGNs that one in Format 2 can have
 pub record FitLimits (l : Limits) : Type 0 where
@@ -109,6 +139,22 @@ kind_of l =
 -- another phase and attempt
 abbrev pub with_state : Numbers → State → Numbers
 with_state n st = record n { phase = phase_of st; attempt = attempt_of st }
+
+-- in a phase, the one form in which a call stores numbers: a flag is 0 or 1, and an attempt stands only where the phase has one
+abbrev pub plain_in : Numbers → State → Numbers
+plain_in n st =
+    record n {
+      phase = phase_of st;
+      attempt = attempt_of st;
+      read = one (is_set n.read);
+      complete = one (is_set n.complete);
+      told = one (is_set n.told);
+      blank = one (is_set n.blank);
+    }
+
+-- the same in the phase that the numbers say
+abbrev pub plain : Numbers → Numbers
+plain n = plain_in n (state_of n.phase n.attempt)
 
 -- the parts of Format 2 in hand: none where the numbers say so; the count of proprietary PGNs stands among the numbers
 abbrev pub parts_of : Numbers → F2List → F2List

@@ -4,8 +4,8 @@ use Rattle.tx_list.specs.Reading.{Command, read1, read40, read4_f, enable, commi
 use Rattle.tx_list.specs.Session.{Lacks, silent, from_whole, from_part}
 use Rattle.helm.specs.declared.words.Refusal.{Refusal}
 use Rattle.helm.specs.declared.words.Refusal.TheVariants.{NotWellFormed, TimeOverLimit, MessageTooLong, NoRoom, ListFull, TooManyWanted, RecordTooLong}
-use Rattle.helm.specs.declared.words.Sent.{Sent}
-use Rattle.helm.specs.declared.words.Sent.TheVariants.{Nothing, ReadF1, ReadF2, Enable, Commit, Activate}
+use Rattle.commands.specs.declared.Command as written
+use Rattle.commands.specs.declared.Command.TheVariants.{GetProductInfo, GetOperatingMode, SetOperatingMode, GetPortPcode, SetPortPcode, ReadF1, ReadF2, Enable, Commit, Activate}
 use Rattle.helm.specs.declared.words.Lack.{Lack}
 use Rattle.helm.specs.declared.words.Lack.TheVariants.{FromWhole, FromPart}
 
@@ -19,14 +19,19 @@ refusal_number ListFull = 14
 refusal_number TooManyWanted = 11
 refusal_number RecordTooLong = 12
 
--- the commands of a call
-abbrev pub commands_of : Sent → List Command
-commands_of Nothing = []
-commands_of ReadF1 = read1 ∷ []
-commands_of ReadF2 = read40 ∷ read4_f ∷ []
-commands_of (Enable pgn) = enable pgn ∷ []
-commands_of Commit = commit ∷ []
-commands_of Activate = activate ∷ []
+-- the commands of a call: the read of Format 2 is two; of those that no session sends, none
+abbrev pub commands_of : Option written.Command → List Command
+commands_of None = []
+commands_of (Some ReadF1) = read1 ∷ []
+commands_of (Some ReadF2) = read40 ∷ read4_f ∷ []
+commands_of (Some (Enable pgn)) = enable pgn ∷ []
+commands_of (Some Commit) = commit ∷ []
+commands_of (Some Activate) = activate ∷ []
+commands_of (Some GetProductInfo) = []
+commands_of (Some GetOperatingMode) = []
+commands_of (Some (SetOperatingMode code)) = []
+commands_of (Some GetPortPcode) = []
+commands_of (Some (SetPortPcode ports)) = []
 
 -- "nothing, lacking from a whole list (Format 2), or lacking from a partial one"
 abbrev pub told_lack : Option Lack → Lacks

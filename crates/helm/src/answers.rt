@@ -1,50 +1,22 @@
 // The answers to enable, commit and activate.
+// kept: a count has 32 bits in memory and is a usize in a slice: std has no `From` of u32 for usize, and `try_from` back would have a refusal that never comes.
 ghost use Rattle.std.specs.Prelude.{◌≡◌, ◌+◌, ◌<◌, ◌≤◌};
+ghost use Rattle.numbers.specs.Layout.{state_of};
 ghost use Rattle.tx_list.specs.Views.{answer_of, good};
-ghost use Rattle.tx_list.specs.Moves.{marks, goes_on, asks_next, closes, commits, committed, activated, heard};
-ghost use Rattle.views.specs.Told.{told_result};
-ghost use Rattle.phases.specs.Sync.{kind, step_of};
+ghost use Rattle.tx_list.specs.Moves.{marks, goes_on, asks_next, activated};
+ghost use Rattle.session.specs.Sync.{kind, step_of};
 ghost use Rattle.helm.specs.Stored.{capacity_of, session_at};
-ghost use Rattle.helm.specs.Steps.{told_step, passed_by};
+ghost use Rattle.helm.specs.Steps.{told_step};
 
-use crate::arrays::{contains, copy, push_if, shift, sized};
+use crate::arrays::{push_if, sized};
 use crate::memory::Memory;
 use crate::moment::Moment;
 use crate::steps::Step;
 use crate::stored::{Numbers, Which};
-use crate::words::Sent;
+use crate::tested::Tested;
+use commands::Command;
 use tx_list::State;
 use views::EnableResult;
-
-/// What an answer to an enable command passes.
-#[derive(Clone, Copy)]
-pub(crate) struct Passed {
-    good: bool,
-    now: bool,
-    there: bool,
-}
-
-fn passed_by(said: EnableResult) -> Passed
-    ensures { result ≡ passed_by (told_result said) }
-{
-    match said {
-        EnableResult::Now => Passed {
-            good: true,
-            now: true,
-            there: false,
-        },
-        EnableResult::Already => Passed {
-            good: true,
-            now: false,
-            there: true,
-        },
-        EnableResult::Refused => Passed {
-            good: false,
-            now: false,
-            there: false,
-        },
-    }
-}
 
 /// The lists after an answer to the oldest PGN owed: a good one adds it to known, if a list is known and lacks it; already there: present;
 /// refused: refused; enabled now and not saved before: fresh.
@@ -55,33 +27,34 @@ fn mark<M: Memory>(memory: &mut M, old: Numbers, payload: &[u8]) -> Numbers
     requires saved { old.saved ≤ 256 }
     requires fresh { old.fresh < capacity_of M.limits Which.Fresh }
     requires owed { 0 < capacity_of M.limits Which.Owed }
-    ensures { (st : State) → session_at st result (M.stored memory.new) ≡ marks kind (session_at st old (M.stored memory.old)) payload.now (answer_of payload.now) }
+    ensures left { (st : State) → session_at st result (M.stored memory.new) ≡ marks kind (session_at st old (M.stored memory.old)) payload.now (answer_of payload.now) }
+    ensures loans { (M.stored memory.new).loans ≡ (M.stored memory.old).loans }
 {
-    let said = passed_by(views::enable_result(payload));
+    let said = views::enable_result(payload);
     let pgn = memory.array(Which::Owed)[0];
-    let lacked = !contains(memory.array(Which::Known), old.known as usize, pgn);
-    let unsaved = !contains(memory.array(Which::Saved), old.saved as usize, pgn);
-    let learned = (old.read != 0) & (said.good & lacked);
+    let lacked = !pgns::has(memory.array(Which::Known), old.known as usize, pgn);
+    let unsaved = !pgns::has(memory.array(Which::Saved), old.saved as usize, pgn);
+    let learned = (old.read != 0) & ((said != EnableResult::Refused) & lacked);
     let known = push_if(memory, Which::Known, old.known as usize, learned, pgn);
     let present = push_if(
         memory,
         Which::Present,
         old.present as usize,
-        said.there,
+        said == EnableResult::Already,
         pgn,
     );
     let refused = push_if(
         memory,
         Which::Refused,
         old.refused as usize,
-        !said.good,
+        said == EnableResult::Refused,
         pgn,
     );
     let fresh = push_if(
         memory,
         Which::Fresh,
         old.fresh as usize,
-        said.now & unsaved,
+        (said == EnableResult::Now) & unsaved,
         pgn,
     );
     let mut numbers = old;
@@ -94,8 +67,8 @@ fn mark<M: Memory>(memory: &mut M, old: Numbers, payload: &[u8]) -> Numbers
 
 impl Numbers {
     /// A step to a phase in which an answer is awaited from now on.
-    pub(crate) fn awaiting(self, sent: Sent, state: State, at: Moment) -> Step
-        ensures { result ≡ record { sent = sent; state = state; numbers = record self { due = at.ms + 10000 } } }
+    pub(crate) fn awaiting(self, sent: Option<Command<'static>>, state: State, at: Moment) -> Step
+        ensures { result ≡ record { sent = sent.entry; state = state; numbers = record self { due = at.ms + 10000 } } }
     {
         let mut numbers = self;
         numbers.due = at.deadline();
@@ -111,60 +84,56 @@ impl Numbers {
 fn ask_next<M: Memory>(memory: &mut M, old: Numbers, at: Moment) -> Step
     requires more { 1 < old.owed }
     requires within { old.owed ≤ capacity_of M.limits Which.Owed }
-    ensures { (st : State) → told_step result (M.stored memory.new) ≡ step_of (asks_next kind (session_at st old (M.stored memory.old)) at.ms) }
+    ensures left { (st : State) → told_step result (M.stored memory.new) ≡ step_of (asks_next kind (session_at st old (M.stored memory.old)) at.ms) }
+    ensures loans { (M.stored memory.new).loans ≡ (M.stored memory.old).loans }
 {
     sized(memory);
     let next = memory.array(Which::Owed)[1];
-    shift(memory, old.owed as usize);
+    memory.shift_owed(old.owed as usize);
     let mut numbers = old;
     numbers.owed = old.owed - 1;
-    numbers.awaiting(Sent::Enable(next), State::Enabling, at)
+    numbers.awaiting(Some(Command::Enable(next)), State::Enabling, at)
 }
 
 /// What comes after an answer: the next PGN owed; with none, commit where some are fresh, else done.
 fn go_on<M: Memory>(memory: &mut M, old: Numbers, at: Moment) -> Step
     requires { old.owed ≤ capacity_of M.limits Which.Owed }
-    ensures { (st : State) → told_step result (M.stored memory.new) ≡ step_of (goes_on kind (session_at st old (M.stored memory.old)) at.ms) }
+    ensures left { (st : State) → told_step result (M.stored memory.new) ≡ step_of (goes_on kind (session_at st old (M.stored memory.old)) at.ms) }
+    ensures loans { (M.stored memory.new).loans ≡ (M.stored memory.old).loans }
 {
     if 1 < old.owed {
         return ask_next(memory, old, at);
     }
     if old.fresh == 0 {
-        return old.awaiting(Sent::Nothing, State::Done, at);
+        return old.awaiting(None, State::Done, at);
     }
-    old.awaiting(Sent::Commit, State::Committing, at)
+    old.awaiting(Some(Command::Commit), State::Committing, at)
 }
 
 /// The answer to an enable command.
-pub(crate) fn on_answer<M: Memory>(memory: &mut M, old: Numbers, at: Moment, payload: &[u8]) -> Step
-    requires known { old.known < capacity_of M.limits Which.Known }
-    requires present { old.present < 256 }
-    requires refused { old.refused < 256 }
-    requires saved { old.saved ≤ 256 }
-    requires fresh { old.fresh < capacity_of M.limits Which.Fresh }
-    requires some { 0 < old.owed }
-    requires owed { old.owed ≤ capacity_of M.limits Which.Owed }
-    ensures { (st : State) → told_step result (M.stored memory.new) ≡ step_of (goes_on kind (marks kind (session_at st old (M.stored memory.old)) payload.now (answer_of payload.now)) at.ms) }
+pub(crate) fn on_answer<M: Memory>(
+    memory: &mut M,
+    tested: Tested<M>,
+    at: Moment,
+    payload: &[u8],
+) -> Step
+    requires { state_of tested.numbers.phase tested.numbers.attempt ≡ State.Enabling }
+    ensures left { (st : State) → told_step result (M.stored memory.new) ≡ step_of (goes_on kind (marks kind (session_at st tested.numbers (M.stored memory.old)) payload.now (answer_of payload.now)) at.ms) }
+    ensures loans { (M.stored memory.new).loans ≡ (M.stored memory.old).loans }
 {
-    let marked = mark(memory, old, payload);
+    let marked = mark(memory, tested.numbers, payload);
     go_on(memory, marked, at)
 }
 
 /// The fresh PGNs are saved.
-pub(crate) fn save<M: Memory>(memory: &mut M, old: Numbers, at: Moment) -> Step
-    requires room { old.saved + old.fresh ≤ 256 }
-    requires fresh { old.fresh ≤ capacity_of M.limits Which.Fresh }
-    ensures { (st : State) → told_step result (M.stored memory.new) ≡ step_of (activated kind good (session_at st old (M.stored memory.old)) at.ms) }
+pub(crate) fn save<M: Memory>(memory: &mut M, tested: Tested<M>, at: Moment) -> Step
+    ensures left { (st : State) → told_step result (M.stored memory.new) ≡ step_of (activated kind good (session_at st tested.numbers (M.stored memory.old)) at.ms) }
+    ensures loans { (M.stored memory.new).loans ≡ (M.stored memory.old).loans }
 {
     sized(memory);
-    copy(
-        memory,
-        Which::Fresh,
-        old.fresh as usize,
-        Which::Saved,
-        old.saved as usize,
-    );
+    let old = tested.numbers;
+    memory.save_fresh(old.saved as usize, old.fresh as usize);
     let mut numbers = old;
     numbers.saved = old.saved + old.fresh;
-    numbers.awaiting(Sent::Nothing, State::Done, at)
+    numbers.awaiting(None, State::Done, at)
 }

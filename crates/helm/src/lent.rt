@@ -1,17 +1,25 @@
 // The machine of a session whose numbers and lists are lent one by one, as C callers lend them.
 ghost use Rattle.std.proofs.Common.{rules};
-ghost use Rattle.std.specs.Prelude.{◌≡◌, ◌<◌, ◌%◌, length, slice_set};
-ghost use Rattle.helm.specs.Stored.{array_of, capacity_of, with_array, with_numbers, with_parts};
-ghost use Rattle.helm.specs.Machines.{helm_limits, word, half, numbers_in, lent_stored};
+ghost use Rattle.std.specs.Prelude.{◌≡◌, ◌≤◌, ◌%◌, OnErr, OnOk, length, drop};
+ghost use Rattle.field.specs.Pick.{pick};
+ghost use Rattle.pgns.specs.Lists.{noted, owed_in};
+ghost use Rattle.tx_list.specs.Reading as model;
+ghost use Rattle.tx_list.specs.Views.{pgns_at};
+ghost use Rattle.helm.specs.Stored.{array_of, capacity_of, parts_of, plain, with_array, with_numbers, with_parts};
+ghost use Rattle.helm.specs.Steps.{minded};
+ghost use Rattle.helm.specs.Arrays.{storing, first, owed_by};
+ghost use Rattle.helm.specs.Calls.{told, called};
+ghost use Rattle.helm.specs.Machines.{SameLoans, helm_limits, word, half, numbers_in, lent_plain, lent_stored};
 
 use crate::memory::Memory;
-use crate::session::Session;
+use crate::sessions::Session;
 use crate::stored::{Numbers, Which};
+use crate::words::Refusal;
 use bounds::Limits;
 use lists::F2List;
 
-/// A session with a helm's limits in memory of somebody else: 17 numbers as crate `numbers` lays them out, an array for each list, and the parts
-/// of a Format 2 read.
+/// A session with a helm's limits in memory of somebody else: 17 numbers as crate `numbers` lays them out, and an array for each list. The parts
+/// of a Format 2 read are lent by value; None where they are not lent, and then none is in hand.
 #[derive(Drop)]
 pub struct Lent<'a> {
     pub numbers: &'a mut [u64; 17],
@@ -23,7 +31,7 @@ pub struct Lent<'a> {
     pub saved: &'a mut [u32; 256],
     pub present: &'a mut [u32; 256],
     pub refused: &'a mut [u32; 256],
-    pub parts: &'a mut F2List,
+    pub parts: Option<F2List>,
 }
 
 /// A number of 32 bits; one that has more is the largest, which is over every count, is no phase, and is set as a flag.
@@ -56,28 +64,30 @@ fn wide_16(x: u16) -> u64
     u64::from(x)
 }
 
-/// The numbers that these 17 tell.
-fn read(n: &[u64; 17]) -> Numbers
-    ensures { result ≡ numbers_in n.now }
-{
-    Numbers {
-        phase: word(n[0]),
-        attempt: numbers::low32(n[1]),
-        due: n[11],
-        wanted: word(n[2]),
-        owed: word(n[3]),
-        fresh: word(n[4]),
-        list: word(n[5]),
-        proprietary: word(n[6]),
-        known: word(n[7]),
-        saved: word(n[8]),
-        present: word(n[9]),
-        refused: word(n[10]),
-        read: word(n[12]),
-        complete: word(n[13]),
-        told: word(n[14]),
-        version: numbers::low16(n[15]),
-        blank: half(n[16]),
+impl Numbers {
+    /// The numbers that these 17 tell, as crate `numbers` lays them out.
+    pub fn from_lent(n: &[u64; 17]) -> Numbers
+        ensures { result ≡ numbers_in n.now }
+    {
+        Numbers {
+            phase: word(n[0]),
+            attempt: numbers::low32(n[1]),
+            due: n[11],
+            wanted: word(n[2]),
+            owed: word(n[3]),
+            fresh: word(n[4]),
+            list: word(n[5]),
+            proprietary: word(n[6]),
+            known: word(n[7]),
+            saved: word(n[8]),
+            present: word(n[9]),
+            refused: word(n[10]),
+            read: word(n[12]),
+            complete: word(n[13]),
+            told: word(n[14]),
+            version: numbers::low16(n[15]),
+            blank: half(n[16]),
+        }
     }
 }
 
@@ -125,7 +135,7 @@ impl Memory for Lent<'_> {
     fn numbers(&self) -> Numbers
         ensures { result ≡ (lent_stored self.now).numbers }
     {
-        read(self.numbers)
+        Numbers::from_lent(self.numbers)
     }
 
     fn set_numbers(&mut self, numbers: Numbers)
@@ -150,35 +160,111 @@ impl Memory for Lent<'_> {
         }
     }
 
-    fn set(&mut self, which: Which, at: usize, pgn: u32)
-        requires { at < capacity_of helm_limits which }
-        ensures { lent_stored self.new ≡ with_array (lent_stored self.old) which (slice_set (array_of which (lent_stored self.old)) at pgn) }
+    fn store(&mut self, which: Which, at: usize, pgns: &[u32])
+        ensures { lent_stored self.new ≡ storing (lent_stored self.old) which at pgns.now }
     {
+        let count = pgns.len();
         match which {
-            Which::Wanted => self.wanted[at] = pgn,
-            Which::Owed => self.owed[at] = pgn,
-            Which::Fresh => self.fresh[at] = pgn,
-            Which::List => self.list[at] = pgn,
-            Which::Known => self.known[at] = pgn,
-            Which::Saved => self.saved[at] = pgn,
-            Which::Present => self.present[at] = pgn,
-            Which::Refused => self.refused[at] = pgn,
+            Which::Wanted => pgns::append(self.wanted, at, pgns, count),
+            Which::Owed => pgns::append(self.owed, at, pgns, count),
+            Which::Fresh => pgns::append(self.fresh, at, pgns, count),
+            Which::List => pgns::append(self.list, at, pgns, count),
+            Which::Known => pgns::append(self.known, at, pgns, count),
+            Which::Saved => pgns::append(self.saved, at, pgns, count),
+            Which::Present => pgns::append(self.present, at, pgns, count),
+            Which::Refused => pgns::append(self.refused, at, pgns, count),
         }
+    }
+
+    fn add_pgns(&mut self, at: usize, message: &[u8], count: usize)
+        ensures { lent_stored self.new ≡ storing (lent_stored self.old) Which.List at (pgns_at message.now 13 count) }
+    {
+        pgns::add_pgns(self.list, at, message, 13, count);
+    }
+
+    // kept: `pgns::append(self.known, 0, self.list, count)`, and its like below, was tried: no rule proves a field that is read beside one that
+    // is written, both behind `self`
+    fn know_list(&mut self, count: usize)
+        ensures { lent_stored self.new ≡ storing (lent_stored self.old) Which.Known 0 (first Which.List count (lent_stored self.old)) }
+    {
+        let known = &mut *self.known;
+        let list = &mut *self.list;
+        pgns::append(known, 0, list, count);
+    }
+
+    fn note_present(&mut self, count: usize, present: usize) -> usize
+        ensures value { result ≡ (noted (lent_stored self.old).known count (lent_stored self.old).present present).n }
+        ensures known { lent_stored self.new ≡ with_array (lent_stored self.old) Which.Known (noted (lent_stored self.old).known count (lent_stored self.old).present present).items }
+    {
+        let known = &mut *self.known;
+        let there = &mut *self.present;
+        pgns::note_all(known, count, there, present)
+    }
+
+    fn owe(&mut self, wanted: usize, list: usize, present: usize, refused: usize) -> usize
+        ensures value { result ≡ (owed_in (lent_stored self.old).owed wanted (owed_by wanted list present refused (lent_stored self.old))).n }
+        ensures owed { lent_stored self.new ≡ with_array (lent_stored self.old) Which.Owed (owed_in (lent_stored self.old).owed wanted (owed_by wanted list present refused (lent_stored self.old))).items }
+    {
+        let owed = &mut *self.owed;
+        let asked = &mut *self.wanted;
+        let known = &mut *self.known;
+        let there = &mut *self.present;
+        let denied = &mut *self.refused;
+        pgns::owed_into(
+            owed, asked, wanted, known, list, there, present, denied, refused,
+        )
+    }
+
+    fn shift_owed(&mut self, count: usize)
+        ensures { lent_stored self.new ≡ storing (lent_stored self.old) Which.Owed 0 (drop 1 (first Which.Owed count (lent_stored self.old))) }
+    {
+        pgns::shift(self.owed, count);
+    }
+
+    fn save_fresh(&mut self, at: usize, count: usize)
+        ensures { lent_stored self.new ≡ storing (lent_stored self.old) Which.Saved at (first Which.Fresh count (lent_stored self.old)) }
+    {
+        let saved = &mut *self.saved;
+        let fresh = &mut *self.fresh;
+        pgns::append(saved, at, fresh, count);
     }
 
     fn parts(&self) -> F2List
         ensures { result ≡ (lent_stored self.now).parts }
     {
-        *self.parts
+        match self.parts {
+            Some(parts) => parts,
+            None => F2List::new(),
+        }
     }
 
     fn set_parts(&mut self, parts: F2List)
         ensures { lent_stored self.new ≡ with_parts (lent_stored self.old) parts }
     {
-        *self.parts = parts;
+        self.parts = Some(parts);
     }
 
     ghost limits_fit = { Prim.search rules };
 }
 
 impl Session for Lent<'_> {}
+
+impl Lent<'_> {
+    /// A message of the gateway at a time, as `message` of `Session`. What stands behind each reference afterwards is what its lender finds.
+    pub fn hear(&mut self, time: u64, payload: &[u8], out: &mut [u8]) -> Result<usize, Refusal>
+        ensures left { told result (lent_plain self.new) out.new ≡ called helm_limits (lent_plain self.old) (model.message time payload.now (length out.old)) out.old }
+        ensures same { SameLoans self.new self.old }
+        ensures phase { OnOk result ((lent_plain self.new).numbers.phase ≤ 7) }
+        ensures form { OnOk result ((lent_plain self.new).numbers ≡ pick (minded (lent_plain self.old).numbers payload.now) (plain (lent_plain self.new).numbers) (lent_plain self.old).numbers) }
+        ensures err { OnErr result (self.new ≡ self.old) }
+    {
+        self.message(time, payload, out)
+    }
+
+    /// The parts of a Format 2 read in hand, none where the numbers say so.
+    pub fn in_hand(&self) -> F2List
+        ensures { result ≡ parts_of (lent_plain self.now).numbers (lent_plain self.now).parts }
+    {
+        self.numbers().in_hand(self.parts())
+    }
+}

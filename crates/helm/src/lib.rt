@@ -3,6 +3,7 @@
 
 mod answers;
 mod arrays;
+pub mod calls;
 mod entry;
 pub mod laws;
 mod lent;
@@ -11,7 +12,7 @@ pub mod memory;
 pub mod moment;
 mod parts;
 mod reading;
-mod session;
+mod sessions;
 mod steps;
 pub mod stored;
 mod tested;
@@ -21,4 +22,4 @@ pub mod words;
 pub use lent::Lent;
 pub use machines::Helm;
 pub use memory::Memory;
-pub use session::Session;
+pub use sessions::Session;

@@ -1,11 +1,14 @@
+// kept: a count has 32 bits in memory and is a usize in a slice: std has no `From` of u32 for usize, and `try_from` back would have a refusal that never comes.
 ghost use Rattle.std.proofs.Common.{rules};
 ghost use Rattle.std.specs.Prelude.{◌≡◌};
-ghost use Rattle.helm.specs.Machines.{helm_blank, helm_limits, helm_stored};
+ghost use Rattle.session.specs.Sync.{begun_with};
+ghost use Rattle.helm.specs.Machines.{helm_blank, helm_limits, helm_stored, told_begun};
 
 use crate::memory::Memory;
-use crate::session::Session;
+use crate::sessions::Session;
 use crate::stored::{Numbers, Which};
-use bounds::Limits;
+use crate::words::Refusal;
+use bounds::{Counts, Limits};
 use lists::F2List;
 
 /// The machine of a helm: up to 64 PGNs wanted, and a list of up to 1,024 in Format 1. All of it 0 is a session that wants nothing.
@@ -30,25 +33,7 @@ impl Helm {
         ensures { helm_stored result ≡ helm_blank }
     {
         Helm {
-            numbers: Numbers {
-                phase: 0,
-                attempt: 0,
-                due: 0,
-                wanted: 0,
-                owed: 0,
-                fresh: 0,
-                list: 0,
-                proprietary: 0,
-                known: 0,
-                saved: 0,
-                present: 0,
-                refused: 0,
-                read: 0,
-                complete: 0,
-                told: 0,
-                version: 0,
-                blank: 0,
-            },
+            numbers: Numbers::default(),
             wanted: [0; 64],
             owed: [0; 64],
             fresh: [0; 64],
@@ -60,8 +45,43 @@ impl Helm {
             parts: F2List::new(),
         }
     }
+
+    /// A session that wants these PGNs, with what earlier ones learned: those saved, already there, refused. Refuses with 11, 12.
+    pub fn begun(
+        wanted: &[u32],
+        saved: &[u32],
+        present: &[u32],
+        refused: &[u32],
+    ) -> Result<Helm, Refusal>
+        ensures { told_begun result ≡ begun_with wanted.now (record { saved = saved.now; present = present.now; refused = refused.now }) }
+    {
+        if Helm::limits().wanted < wanted.len() {
+            return Err(Refusal::TooManyWanted);
+        }
+        let mut helm = Helm::new();
+        let learned = Counts {
+            saved: saved.len(),
+            present: present.len(),
+            refused: refused.len(),
+            ..helm.numbers.counts()
+        };
+        if !learned.has_old_record() {
+            return Err(Refusal::RecordTooLong);
+        }
+        helm.store(Which::Wanted, 0, wanted);
+        helm.store(Which::Saved, 0, saved);
+        helm.store(Which::Present, 0, present);
+        helm.store(Which::Refused, 0, refused);
+        let mut numbers = helm.numbers;
+        numbers.saved = saved.len() as u32;
+        numbers.present = present.len() as u32;
+        numbers.refused = refused.len() as u32;
+        helm.numbers = numbers.opened(wanted.len() as u32);
+        Ok(helm)
+    }
 }
 
+// kept: no plainer: of the two machines one has its arrays and the other refers to them; each function is a line over crate `pgns` in both.
 impl Memory for Helm {
     ghost limits = { helm_limits };
 
@@ -97,17 +117,52 @@ impl Memory for Helm {
         }
     }
 
-    fn set(&mut self, which: Which, at: usize, pgn: u32) {
+    fn store(&mut self, which: Which, at: usize, pgns: &[u32]) {
+        let count = pgns.len();
         match which {
-            Which::Wanted => self.wanted[at] = pgn,
-            Which::Owed => self.owed[at] = pgn,
-            Which::Fresh => self.fresh[at] = pgn,
-            Which::List => self.list[at] = pgn,
-            Which::Known => self.known[at] = pgn,
-            Which::Saved => self.saved[at] = pgn,
-            Which::Present => self.present[at] = pgn,
-            Which::Refused => self.refused[at] = pgn,
+            Which::Wanted => pgns::append(&mut self.wanted, at, pgns, count),
+            Which::Owed => pgns::append(&mut self.owed, at, pgns, count),
+            Which::Fresh => pgns::append(&mut self.fresh, at, pgns, count),
+            Which::List => pgns::append(&mut self.list, at, pgns, count),
+            Which::Known => pgns::append(&mut self.known, at, pgns, count),
+            Which::Saved => pgns::append(&mut self.saved, at, pgns, count),
+            Which::Present => pgns::append(&mut self.present, at, pgns, count),
+            Which::Refused => pgns::append(&mut self.refused, at, pgns, count),
         }
+    }
+
+    fn add_pgns(&mut self, at: usize, message: &[u8], count: usize) {
+        pgns::add_pgns(&mut self.list, at, message, 13, count);
+    }
+
+    fn know_list(&mut self, count: usize) {
+        pgns::append(&mut self.known, 0, &self.list, count);
+    }
+
+    fn note_present(&mut self, count: usize, present: usize) -> usize {
+        pgns::note_all(&mut self.known, count, &self.present, present)
+    }
+
+    fn owe(&mut self, wanted: usize, list: usize, present: usize, refused: usize) -> usize {
+        pgns::owed_into(
+            &mut self.owed,
+            &self.wanted,
+            wanted,
+            &self.known,
+            list,
+            &self.present,
+            present,
+            &self.refused,
+            refused,
+        )
+    }
+
+    fn shift_owed(&mut self, count: usize) {
+        pgns::shift(&mut self.owed, count);
+    }
+
+    fn save_fresh(&mut self, at: usize, count: usize) {
+        pgns::append(&mut self.saved, at, &self.fresh, count);
     }
 
     fn parts(&self) -> F2List {

@@ -1,20 +1,21 @@
 // A message while Format 2 is read: a part of its lists, or an error, which leads to Format 1.
+// kept: a count has 32 bits in memory and is a usize in a slice: std has no `From` of u32 for usize, and `try_from` back would have a refusal that never comes.
 ghost use Rattle.std.specs.Prelude.{◌≡◌, ◌≤◌, IfSome, IsNone, true, length};
 ghost use Rattle.std.proofs.Math.Option.{none};
 ghost use Rattle.lists.specs.Format2.{formed, pgns_of};
 ghost use Rattle.tx_list.specs.Views.{f2_of};
 ghost use Rattle.tx_list.specs.Moves.{puts, in_f2, in_whole};
-ghost use Rattle.phases.specs.Sync.{kind, put, step_of};
+ghost use Rattle.session.specs.Sync.{kind, put, step_of};
 ghost use Rattle.helm.specs.Stored.{capacity_of, parts_of, session_at};
 ghost use Rattle.helm.specs.Steps.{Listed, told_step};
 
-use crate::arrays::{sized, write};
+use crate::arrays::sized;
 use crate::memory::Memory;
 use crate::moment::Moment;
 use crate::reading::got;
 use crate::steps::Step;
 use crate::stored::{Numbers, Which};
-use crate::words::Sent;
+use crate::tested::Tested;
 use lists::F2List;
 use replies::BEM_SUPPORTED_PGN_LIST;
 use tx_list::State;
@@ -23,18 +24,19 @@ use views::F2Kind;
 /// The most PGNs that a list in Format 2 has.
 const WHOLE_LIST: usize = 767;
 
-/// The parts in hand; none where the numbers say so.
-fn in_hand(numbers: Numbers, stored: F2List) -> F2List
-    ensures { result ≡ parts_of numbers stored }
-{
-    if numbers.blank != 0 {
-        let mut none = F2List::new();
-        none.proprietary.list.n = numbers.proprietary as usize;
-        return none;
+impl Numbers {
+    /// The parts of a Format 2 read in hand, of those that are kept; none where the numbers say so.
+    pub fn in_hand(self, parts: F2List) -> F2List
+        ensures { result ≡ parts_of self parts }
+    {
+        let mut held = if self.blank != 0 {
+            F2List::new()
+        } else {
+            parts
+        };
+        held.proprietary.list.n = self.proprietary as usize;
+        held
     }
-    let mut parts = stored;
-    parts.proprietary.list.n = numbers.proprietary as usize;
-    parts
 }
 
 /// A part of a list, by the reply byte.
@@ -52,13 +54,14 @@ fn put_part(parts: &mut F2List, payload: &[u8])
 /// The part is kept, with an answer awaited from now on.
 fn keep<M: Memory>(memory: &mut M, old: Numbers, attempt: u32, parts: F2List, at: Moment) -> Step
     requires { parts.proprietary.list.n ≤ 512 }
-    ensures { told_step result (M.stored memory.new) ≡ step_of (puts kind (session_at (State.ReadingF2 attempt) old (M.stored memory.old)) parts at.ms) }
+    ensures left { told_step result (M.stored memory.new) ≡ step_of (puts kind (session_at (State.ReadingF2 attempt) old (M.stored memory.old)) parts at.ms) }
+    ensures loans { (M.stored memory.new).loans ≡ (M.stored memory.old).loans }
 {
     memory.set_parts(parts);
     let mut numbers = old;
     numbers.proprietary = parts.proprietary.list.n as u32;
     numbers.blank = 0;
-    numbers.awaiting(Sent::Nothing, State::ReadingF2(attempt), at)
+    numbers.awaiting(None, State::ReadingF2(attempt), at)
 }
 
 /// The list, once all three parts are in hand, at the start of an array; answers how many PGNs it has.
@@ -75,29 +78,28 @@ fn read_list(parts: F2List, out: &mut [u32]) -> Option<usize>
     }
 }
 
-/// A part of a list: once all three are in hand, the list is read.
+/// A part of a list: once all three are in hand, the list is read. A call of its own, so that no other message pays for its array.
+#[inline(never)]
 fn on_part<M: Memory>(
     memory: &mut M,
-    old: Numbers,
+    tested: Tested<M>,
     attempt: u32,
     at: Moment,
     payload: &[u8],
 ) -> Step
-    requires wanted { old.wanted ≤ capacity_of M.limits Which.Wanted }
-    requires present { old.present ≤ 256 }
-    requires refused { old.refused ≤ 256 }
-    requires proprietary { old.proprietary ≤ 512 }
-    requires room { 1023 ≤ capacity_of M.limits Which.Known }
-    ensures { told_step result (M.stored memory.new) ≡ step_of (in_whole kind (pgns_of (put payload.now (parts_of old (M.stored memory.old).parts))) (session_at (State.ReadingF2 attempt) old (M.stored memory.old)) (put payload.now (parts_of old (M.stored memory.old).parts)) at.ms) }
+    requires { 1023 ≤ capacity_of M.limits Which.Known }
+    ensures left { told_step result (M.stored memory.new) ≡ step_of (in_whole kind (pgns_of (put payload.now (parts_of tested.numbers (M.stored memory.old).parts))) (session_at (State.ReadingF2 attempt) tested.numbers (M.stored memory.old)) (put payload.now (parts_of tested.numbers (M.stored memory.old).parts)) at.ms) }
+    ensures loans { (M.stored memory.new).loans ≡ (M.stored memory.old).loans }
 {
     sized(memory);
-    let mut parts = in_hand(old, memory.parts());
+    let old = tested.numbers;
+    let mut parts = old.in_hand(memory.parts());
     put_part(&mut parts, payload);
     let mut list = [0u32; WHOLE_LIST];
     match read_list(parts, &mut list) {
         Some(count) => {
-            write(memory, Which::Known, &list[..count]);
-            got(memory, old, count, true, at)
+            memory.store(Which::Known, 0, &list[..count]);
+            got(memory, tested, count, true, at)
         }
         None => keep(memory, old, attempt, parts, at),
     }
@@ -106,21 +108,18 @@ fn on_part<M: Memory>(
 /// A message while Format 2 is read.
 pub(crate) fn on_f2<M: Memory>(
     memory: &mut M,
-    old: Numbers,
+    tested: Tested<M>,
     attempt: u32,
     at: Moment,
     payload: &[u8],
 ) -> Step
-    requires wanted { old.wanted ≤ capacity_of M.limits Which.Wanted }
-    requires present { old.present ≤ 256 }
-    requires refused { old.refused ≤ 256 }
-    requires proprietary { old.proprietary ≤ 512 }
-    requires room { 1023 ≤ capacity_of M.limits Which.Known }
-    ensures { told_step result (M.stored memory.new) ≡ step_of (in_f2 kind (f2_of payload.now) (session_at (State.ReadingF2 attempt) old (M.stored memory.old)) at.ms payload.now) }
+    requires { 1023 ≤ capacity_of M.limits Which.Known }
+    ensures left { told_step result (M.stored memory.new) ≡ step_of (in_f2 kind (f2_of payload.now) (session_at (State.ReadingF2 attempt) tested.numbers (M.stored memory.old)) at.ms payload.now) }
+    ensures loans { (M.stored memory.new).loans ≡ (M.stored memory.old).loans }
 {
     match views::f2_kind(payload) {
-        F2Kind::Wrong => old.start_f1(1, at),
-        F2Kind::Part => on_part(memory, old, attempt, at, payload),
-        F2Kind::Neither => old.stay(State::ReadingF2(attempt)),
+        F2Kind::Wrong => tested.numbers.start_f1(1, at),
+        F2Kind::Part => on_part(memory, tested, attempt, at, payload),
+        F2Kind::Neither => tested.numbers.stay(State::ReadingF2(attempt)),
     }
 }

@@ -1,22 +1,23 @@
 // A message while the list is read, and what follows once it is.
-ghost use Rattle.std.specs.Prelude.{◌≡◌, ◌+◌, ◌<◌, ◌≤◌, false, List, ℕ, length, take, ltb};
-ghost use Rattle.std.proofs.lemmas.List.Edits.{sets};
-ghost use Rattle.bounds.specs.declared.Limits.{Limits as Bounds};
+// kept: a count has 32 bits in memory and is a usize in a slice: std has no `From` of u32 for usize, and `try_from` back would have a refusal that never comes.
+ghost use Rattle.std.specs.Prelude.{◌≡◌, ◌+◌, ◌<◌, ◌≤◌, false, length, take, ltb};
 ghost use Rattle.numbers.specs.Layout.{one, state_of};
 ghost use Rattle.tx_list.specs.Views.{list_pgns, f1_of, added, group_count};
 ghost use Rattle.tx_list.specs.Moves.{full_in, waits_from, adds_to, gets, in_f1};
-ghost use Rattle.phases.specs.Sync.{kind, step_of};
-ghost use Rattle.phases.specs.Lent.{minds_in};
-ghost use Rattle.helm.specs.Stored.{Stored, array_of, capacity_of, with_array, kind_of, session_at, session_of, ignores_on};
+ghost use Rattle.session.specs.Sync.{kind, step_of};
+ghost use Rattle.session.specs.Lent.{minds_in};
+ghost use Rattle.helm.specs.Stored.{Stored, array_of, capacity_of, kind_of, session_at, session_of, ignores_on};
 ghost use Rattle.helm.specs.Steps.{Gets, told_step, asked_none, asked_some};
 
-use crate::arrays::{add_pgns, copy, note_present, owe, sized};
+use crate::arrays::{note_present, owe, sized};
 use crate::memory::Memory;
 use crate::moment::Moment;
 use crate::steps::Step;
 use crate::stored::{Numbers, Which};
-use crate::words::{MESSAGE_LIMIT, OUTPUT_ROOM, Sent, TIME_LIMIT};
+use crate::tested::Tested;
+use crate::words::{MESSAGE_LIMIT, OUTPUT_ROOM, TIME_LIMIT};
 use bounds::Limits;
+use commands::Command;
 use replies::{
     BEM_ACTIVATE_PGN_ENABLE_LISTS, BEM_COMMIT_TO_EEPROM, BEM_TX_PGN_ENABLE,
     BEM_TX_PGN_ENABLE_LIST_F1,
@@ -63,7 +64,7 @@ impl Numbers {
 
     /// Whether a message is taken and does nothing, told by one look; where it says no, nothing is said.
     #[inline(always)]
-    pub(crate) fn ignores(self, limits: Limits, time: u64, payload: &[u8], room: usize) -> bool
+    pub fn skips(self, limits: Limits, time: u64, payload: &[u8], room: usize) -> bool
         ensures { result ≡ ignores_on limits self time payload.now room }
     {
         self.is_calm(limits)
@@ -107,30 +108,29 @@ fn ask<M: Memory>(memory: &M, known: Numbers, owed: usize, at: Moment) -> Step
     ensures some { 0 < owed → told_step result (M.stored memory.now) ≡ asked_some known owed at.ms (M.stored memory.now) }
 {
     if owed == 0 {
-        return known.awaiting(Sent::Nothing, State::Done, at);
+        return known.awaiting(None, State::Done, at);
     }
     let first = memory.array(Which::Owed)[0];
     let mut numbers = known;
     numbers.owed = owed as u32;
     numbers.fresh = 0;
-    numbers.awaiting(Sent::Enable(first), State::Enabling, at)
+    numbers.awaiting(Some(Command::Enable(first)), State::Enabling, at)
 }
 
 /// A list of so many PGNs stands at the front of the known one: it is known, with the present ones, and what is owed is asked for.
 pub(crate) fn got<M: Memory>(
     memory: &mut M,
-    old: Numbers,
+    tested: Tested<M>,
     count: usize,
     complete: bool,
     at: Moment,
 ) -> Step
-    requires wanted { old.wanted ≤ capacity_of M.limits Which.Wanted }
-    requires present { old.present ≤ 256 }
-    requires refused { old.refused ≤ 256 }
-    requires room { count + 256 ≤ capacity_of M.limits Which.Known }
-    ensures { Gets M.limits old count complete at.ms result (M.stored memory.old) (M.stored memory.new) }
+    requires { count + 256 ≤ capacity_of M.limits Which.Known }
+    ensures left { Gets M.limits tested.numbers count complete at.ms result (M.stored memory.old) (M.stored memory.new) }
+    ensures loans { (M.stored memory.new).loans ≡ (M.stored memory.old).loans }
 {
     sized(memory);
+    let old = tested.numbers;
     let known = note_present(memory, count, old.present as usize);
     let owed = owe(
         memory,
@@ -149,47 +149,42 @@ pub(crate) fn got<M: Memory>(
 /// PGNs more of a list in Format 1.
 fn add<M: Memory>(memory: &mut M, old: Numbers, attempt: u32, at: Moment, payload: &[u8]) -> Step
     requires { old.list + length (list_pgns payload.now) ≤ capacity_of M.limits Which.List }
-    ensures { told_step result (M.stored memory.new) ≡ step_of (adds_to kind (session_at (State.Reading attempt) old (M.stored memory.old)) (list_pgns payload.now) at.ms) }
+    ensures left { told_step result (M.stored memory.new) ≡ step_of (adds_to kind (session_at (State.Reading attempt) old (M.stored memory.old)) (list_pgns payload.now) at.ms) }
+    ensures loans { (M.stored memory.new).loans ≡ (M.stored memory.old).loans }
 {
     let count = views::group_count(payload);
-    add_pgns(memory, old.list as usize, payload, count);
+    memory.add_pgns(old.list as usize, payload, count);
     let mut numbers = old;
     numbers.list = old.list + count as u32;
-    numbers.awaiting(Sent::Nothing, State::Reading(attempt), at)
+    numbers.awaiting(None, State::Reading(attempt), at)
 }
 
 /// The list in Format 1 has ended.
-fn end<M: Memory>(memory: &mut M, old: Numbers, at: Moment) -> Step
-    requires wanted { old.wanted ≤ capacity_of M.limits Which.Wanted }
-    requires list { old.list ≤ capacity_of M.limits Which.List }
-    requires present { old.present ≤ 256 }
-    requires refused { old.refused ≤ 256 }
-    ensures { (st : State) → told_step result (M.stored memory.new) ≡ step_of (gets kind (session_at st old (M.stored memory.old)) (take old.list (array_of Which.List (M.stored memory.old))) false at.ms) }
+fn end<M: Memory>(memory: &mut M, tested: Tested<M>, at: Moment) -> Step
+    ensures left { (st : State) → told_step result (M.stored memory.new) ≡ step_of (gets kind (session_at st tested.numbers (M.stored memory.old)) (take tested.numbers.list (array_of Which.List (M.stored memory.old))) false at.ms) }
+    ensures loans { (M.stored memory.new).loans ≡ (M.stored memory.old).loans }
 {
     sized(memory);
-    let count = old.list as usize;
-    copy(memory, Which::List, count, Which::Known, 0);
-    got(memory, old, count, false, at)
+    let count = tested.numbers.list as usize;
+    memory.know_list(count);
+    got(memory, tested, count, false, at)
 }
 
 /// A message while Format 1 is read.
 pub(crate) fn on_f1<M: Memory>(
     memory: &mut M,
-    old: Numbers,
+    tested: Tested<M>,
     attempt: u32,
     at: Moment,
     payload: &[u8],
 ) -> Step
-    requires wanted { old.wanted ≤ capacity_of M.limits Which.Wanted }
-    requires list { old.list ≤ capacity_of M.limits Which.List }
-    requires present { old.present ≤ 256 }
-    requires refused { old.refused ≤ 256 }
-    requires room { ltb (capacity_of M.limits Which.List) (old.list + length (added (f1_of payload.now))) ≡ false }
-    ensures { told_step result (M.stored memory.new) ≡ step_of (in_f1 kind (f1_of payload.now) (session_at (State.Reading attempt) old (M.stored memory.old)) at.ms) }
+    requires { ltb (capacity_of M.limits Which.List) (tested.numbers.list + length (added (f1_of payload.now))) ≡ false }
+    ensures left { told_step result (M.stored memory.new) ≡ step_of (in_f1 kind (f1_of payload.now) (session_at (State.Reading attempt) tested.numbers (M.stored memory.old)) at.ms) }
+    ensures loans { (M.stored memory.new).loans ≡ (M.stored memory.old).loans }
 {
     match views::f1_kind(payload) {
-        F1Kind::Adds => add(memory, old, attempt, at, payload),
-        F1Kind::Ends => end(memory, old, at),
-        F1Kind::Neither => old.stay(State::Reading(attempt)),
+        F1Kind::Adds => add(memory, tested.numbers, attempt, at, payload),
+        F1Kind::Ends => end(memory, tested, at),
+        F1Kind::Neither => tested.numbers.stay(State::Reading(attempt)),
     }
 }

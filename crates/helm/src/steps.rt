@@ -2,10 +2,10 @@
 ghost use Rattle.std.specs.Prelude.{◌≡◌, ◌≤◌, length};
 ghost use Rattle.field.specs.Written.{written};
 ghost use Rattle.framing.specs.Encode.{count_of};
-ghost use Rattle.helm.specs.Steps.{bytes_of};
+ghost use Rattle.helm.specs.Steps.{bytes_of, told_step};
+ghost use Rattle.helm.specs.Stored.{Stored, plain, session_of};
 
 use crate::stored::Numbers;
-use crate::words::Sent;
 use commands::Command;
 use framing::{EncodeError, Written};
 use tx_list::State;
@@ -13,31 +13,46 @@ use tx_list::State;
 /// What a call does: the commands that it sends, the phase that it leads to, and the session's other numbers after it.
 #[derive(Clone, Copy)]
 pub(crate) struct Step {
-    pub(crate) sent: Sent,
+    pub(crate) sent: Option<Command<'static>>,
     pub(crate) state: State,
     pub(crate) numbers: Numbers,
+}
+
+impl Step {
+    /// The session's numbers after it, its phase among them.
+    pub(crate) fn left(self) -> Numbers
+        ensures left { (s : Stored) → session_of result s ≡ (told_step self s).sync }
+        ensures phase { result.phase ≤ 7 }
+        ensures form { result ≡ plain result }
+    {
+        self.numbers.plain_in(self.state)
+    }
 }
 
 fn count_of(written: Result<Written, EncodeError>) -> usize
     ensures { result ≡ count_of written }
 {
-    match written {
-        Ok(written) => written.count,
-        Err(_) => 0,
-    }
+    written.map_or(0, |written| written.count)
 }
 
-/// The commands from the start of the output; answers how many bytes.
-pub(crate) fn write_sent(sent: Sent, out: &mut [u8]) -> usize
+/// The commands from the start of the output; answers how many bytes. A command that no session sends writes nothing.
+pub(crate) fn write_sent(sent: Option<Command<'static>>, out: &mut [u8]) -> usize
     requires { 32 ≤ length out.old }
-    ensures { (result ≡ length (bytes_of sent)) × (out.new ≡ written (bytes_of sent) out.old) }
+    ensures { (result ≡ length (bytes_of sent.entry)) × (out.new ≡ written (bytes_of sent.entry) out.old) }
 {
-    match sent {
-        Sent::Nothing => 0,
-        Sent::ReadF1 => count_of(Command::ReadF1.encode(out)),
-        Sent::ReadF2 => count_of(Command::ReadF2.encode(out)),
-        Sent::Enable(pgn) => count_of(Command::Enable(pgn).encode(out)),
-        Sent::Commit => count_of(Command::Commit.encode(out)),
-        Sent::Activate => count_of(Command::Activate.encode(out)),
+    let Some(command) = sent else {
+        return 0;
+    };
+    match command {
+        Command::ReadF1 => count_of(Command::ReadF1.encode(out)),
+        Command::ReadF2 => count_of(Command::ReadF2.encode(out)),
+        Command::Enable(pgn) => count_of(Command::Enable(pgn).encode(out)),
+        Command::Commit => count_of(Command::Commit.encode(out)),
+        Command::Activate => count_of(Command::Activate.encode(out)),
+        Command::GetProductInfo => 0,
+        Command::GetOperatingMode => 0,
+        Command::SetOperatingMode(_) => 0,
+        Command::GetPortPcode => 0,
+        Command::SetPortPcode(_) => 0,
     }
 }

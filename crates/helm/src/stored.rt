@@ -1,15 +1,16 @@
 // The numbers of a session, as they lie in memory, and whether they are those of a session.
-ghost use Rattle.std.specs.Prelude.{◌≡◌};
+ghost use Rattle.std.specs.Prelude.{◌≡◌, ◌≤◌};
 ghost use Rattle.bounds.specs.Bounds.{old_fits};
 ghost use Rattle.numbers.specs.Layout.{state_of};
-ghost use Rattle.helm.specs.Stored.{counts_of, is_calm, is_well_formed, with_state};
+ghost use Rattle.helm.specs.Stored.{Stored, count_of, counts_of, is_calm, is_well_formed, plain, plain_in, session_of, with_state};
 
 use bounds::{Counts, Limits};
 use tx_list::State;
 
 /// The numbers of a session. Any number may stand anywhere; a flag is set by any number but 0.
+// kept: as C has them: memory may hold anything, so that a flag, a phase and what goes with a flag are numbers, where an `Option` or a `State` would be broken by a stray one.
 #[repr(C)]
-#[derive(Clone, Copy, Debug, PartialEq, Eq)]
+#[derive(Clone, Copy, Debug, Default, PartialEq, Eq)]
 pub struct Numbers {
     /// 0 waits for the mode, 1 waits to read, 2 reads Format 1, 3 reads Format 2, 4 enables, 5 commits, 6 activates, 7 done.
     pub phase: u32,
@@ -52,6 +53,7 @@ pub enum Which {
 }
 
 impl Numbers {
+    // kept: std has no `From` of u32 for usize.
     pub(crate) fn counts(self) -> Counts
         ensures { result ≡ counts_of self }
     {
@@ -68,14 +70,31 @@ impl Numbers {
         }
     }
 
+    /// How many PGNs a list holds.
+    pub fn count(self, which: Which) -> u32
+        ensures { result ≡ count_of which self }
+    {
+        match which {
+            Which::Wanted => self.wanted,
+            Which::Owed => self.owed,
+            Which::Fresh => self.fresh,
+            Which::List => self.list,
+            Which::Known => self.known,
+            Which::Saved => self.saved,
+            Which::Present => self.present,
+            Which::Refused => self.refused,
+        }
+    }
+
     /// The phase and the attempt. A phase over 7 is none, and no session is well formed there.
-    pub(crate) fn state(self) -> State
+    pub fn state(self) -> State
         ensures { result ≡ state_of self.phase self.attempt }
     {
         numbers::state_of(u64::from(self.phase), self.attempt)
     }
 
-    pub(crate) fn in_state(self, state: State) -> Numbers
+    /// The same numbers in another phase.
+    pub fn in_state(self, state: State) -> Numbers
         ensures { result ≡ with_state self state }
     {
         let (phase, attempt) = match state {
@@ -95,9 +114,33 @@ impl Numbers {
         }
     }
 
+    /// In another phase, in the one form in which a call stores numbers.
+    pub(crate) fn plain_in(self, state: State) -> Numbers
+        ensures { result ≡ plain_in self state }
+    {
+        Numbers {
+            read: u32::from(self.read != 0),
+            complete: u32::from(self.complete != 0),
+            told: u32::from(self.told != 0),
+            blank: u16::from(self.blank != 0),
+            ..self.in_state(state)
+        }
+    }
+
+    /// The same session in the one form in which a call stores numbers: a flag is 0 or 1, and an attempt stands only where the phase has one.
+    pub fn plain(self) -> Numbers
+        ensures value { result ≡ plain self }
+        ensures held { (s : Stored) → session_of result s ≡ session_of self s }
+        ensures phase { result.phase ≤ 7 }
+        ensures form { result ≡ plain result }
+    {
+        self.plain_in(self.state())
+    }
+
+    // kept: no plainer: another test than `sound_at` of bounds: it suits every phase but enabling, in one look without a branch.
     /// Whether the numbers are within bounds that suit every phase but enabling: one look, side by side, without a branch.
     #[inline(always)]
-    pub(crate) fn is_calm(self, limits: Limits) -> bool
+    pub fn is_calm(self, limits: Limits) -> bool
         ensures { result ≡ is_calm limits self }
     {
         (self.wanted as usize <= limits.wanted)
@@ -118,17 +161,13 @@ impl Numbers {
     pub(crate) fn has_old_record(self) -> bool
         ensures { result ≡ old_fits (counts_of self) }
     {
-        bounds::lists_fit(
-            self.saved as usize,
-            self.present as usize,
-            self.refused as usize,
-        )
+        self.counts().has_old_record()
     }
 
     /// Whether the numbers are those of a session.
     pub(crate) fn is_well_formed(self, limits: Limits) -> bool
         ensures { result ≡ is_well_formed limits self }
     {
-        self.phase <= 7 && bounds::sound_at(limits, self.counts(), self.state())
+        self.phase <= 7 && limits.sound_at(self.counts(), self.state())
     }
 }

@@ -1,6 +1,6 @@
 // Numbers that passed the test of a state: the only way into a session, and the one place that tests it.
 ghost use Rattle.std.specs.Prelude.{◌≡◌, IsTrue};
-ghost use Rattle.helm.specs.Stored.{is_well_formed};
+ghost use Rattle.helm.specs.Stored.{Within, is_well_formed};
 
 use crate::memory::Memory;
 use crate::stored::Numbers;
@@ -12,6 +12,7 @@ pub(crate) struct Tested<M: Memory> {
     pub(crate) numbers: Numbers,
     machine: PhantomData<M>,
     ghost formed: { IsTrue (is_well_formed M.limits numbers) },
+    ghost within: { Within M.limits numbers },
 }
 
 impl<M: Memory> Tested<M> {
@@ -27,21 +28,10 @@ impl<M: Memory> Tested<M> {
     }
 }
 
-/// Whether the numbers in memory are those of a session. Most are told by one look; the rest is a call of its own, so that a call that does
-/// nothing copies nothing.
+/// Whether the numbers in memory are those of a session.
 #[inline(always)]
 pub(crate) fn is_session<M: Memory>(memory: &M) -> bool
     ensures { result ≡ is_well_formed M.limits (M.stored memory.now).numbers }
 {
-    if memory.numbers().is_calm(M::limits()) {
-        return true;
-    }
-    is_sound(memory)
-}
-
-#[inline(never)]
-fn is_sound<M: Memory>(memory: &M) -> bool
-    ensures { result ≡ is_well_formed M.limits (M.stored memory.now).numbers }
-{
-    memory.numbers().is_well_formed(M::limits())
+    memory.numbers().is_session(M::limits())
 }

@@ -1,30 +1,34 @@
 // The passing of time: the start of a read, another attempt, or the end. Only numbers change.
-ghost use Rattle.std.specs.Prelude.{◌≡◌, ◌&&◌, true, leb};
+ghost use Rattle.std.specs.Prelude.{◌≡◌, ◌&&◌, true, leb, None};
 ghost use Rattle.bounds.specs.declared.Limits.{Limits as Bounds};
-ghost use Rattle.tx_list.specs.Moves.{start_f1, start_f2, finishes, gives_up, starts_over, with_firmware, late, ticked};
+ghost use Rattle.tx_list.specs.Moves.{start_f1, start_f2, finishes, gives_up, late, ticked};
 ghost use Rattle.numbers.specs.Layout.{due_in, is_set};
-ghost use Rattle.phases.specs.Sync.{step_of};
+ghost use Rattle.session.specs.Sync.{step_of};
 ghost use Rattle.helm.specs.Stored.{Stored, kind_of, session_of, session_at, opened_with, rests_on};
 ghost use Rattle.helm.specs.Steps.{told_step};
 
 use crate::moment::Moment;
 use crate::steps::Step;
 use crate::stored::Numbers;
-use crate::words::{F2_FIRMWARE, OUTPUT_ROOM, READ_ATTEMPTS, Sent, TIME_LIMIT};
+use crate::words::{F2_FIRMWARE, OUTPUT_ROOM, READ_ATTEMPTS, TIME_LIMIT};
 use bounds::Limits;
+use commands::Command;
 use tx_list::State;
 
 impl Numbers {
     /// Nothing changes.
     pub(crate) fn stay(self, state: State) -> Step
-        ensures { result ≡ record { sent = Sent.Nothing; state = state; numbers = self } }
+        ensures { result ≡ record { sent = None; state = state; numbers = self } }
     {
         Step {
-            sent: Sent::Nothing,
+            sent: None,
             state,
             numbers: self,
         }
     }
+
+    // kept: no plainer: of the two reads, and of their time-outs below, only the due time is the same; what is empty then, what is sent and
+    // what comes after the third attempt differ.
 
     /// Format 1 is asked for, with an empty list.
     pub(crate) fn start_f1(self, attempt: u32, at: Moment) -> Step
@@ -34,7 +38,7 @@ impl Numbers {
         numbers.list = 0;
         numbers.due = at.deadline();
         Step {
-            sent: Sent::ReadF1,
+            sent: Some(Command::ReadF1),
             state: State::Reading(attempt),
             numbers,
         }
@@ -49,7 +53,7 @@ impl Numbers {
         numbers.proprietary = 0;
         numbers.due = at.deadline();
         Step {
-            sent: Sent::ReadF2,
+            sent: Some(Command::ReadF2),
             state: State::ReadingF2(attempt),
             numbers,
         }
@@ -147,7 +151,7 @@ impl Numbers {
 
     /// Whether a tick is taken and does nothing, told by one look; where it says no, nothing is said.
     #[inline(always)]
-    pub(crate) fn rests(self, limits: Limits, time: u64, room: usize) -> bool
+    pub fn rests(self, limits: Limits, time: u64, room: usize) -> bool
         ensures { result ≡ rests_on limits self time room }
     {
         self.is_calm(limits)
@@ -156,50 +160,17 @@ impl Numbers {
             & (OUTPUT_ROOM <= room)
     }
 
-    /// From the start: what is wanted and the record are kept.
-    pub(crate) fn started_over(self) -> Numbers
-        ensures { (l : Bounds) (st : State) (s : Stored) → session_at State.AwaitStartup result s ≡ starts_over (kind_of l) (session_at st self s) }
-    {
-        let mut numbers = self;
-        numbers.read = 0;
-        numbers.complete = 0;
-        numbers.known = 0;
-        numbers.due = 0;
-        numbers.told = 0;
-        numbers
-    }
-
-    pub(crate) fn with_firmware(self, version: u16) -> Numbers
-        ensures { (st : State) (s : Stored) → session_at st result s ≡ with_firmware (session_at st self s) true version }
-    {
-        let mut numbers = self;
-        numbers.told = 1;
-        numbers.version = version;
-        numbers
-    }
-
     /// The numbers of a session that has just begun: so many PGNs are wanted, and the record's lists have the counts that they had.
     pub(crate) fn opened(self, wanted: u32) -> Numbers
         ensures { result ≡ opened_with self wanted }
     {
         Numbers {
-            phase: 0,
-            attempt: 0,
-            due: 0,
             wanted,
-            owed: 0,
-            fresh: 0,
-            list: 0,
-            proprietary: 0,
-            known: 0,
             saved: self.saved,
             present: self.present,
             refused: self.refused,
-            read: 0,
-            complete: 0,
-            told: 0,
-            version: 0,
             blank: 1,
+            ..Numbers::default()
         }
     }
 }

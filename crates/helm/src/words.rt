@@ -42,17 +42,6 @@ pub enum Refusal {
     RecordTooLong,
 }
 
-/// The commands of one call.
-#[derive(Clone, Copy, Debug, PartialEq, Eq)]
-pub enum Sent {
-    Nothing,
-    ReadF1,
-    ReadF2,
-    Enable(u32),
-    Commit,
-    Activate,
-}
-
 /// A PGN that the gateway's list lacks.
 #[derive(Clone, Copy, Debug, PartialEq, Eq)]
 pub enum Lack {

@@ -1,14 +1,15 @@
 // The static library libngt1_session.a that programs in C and Rust link: each function of `ngt1_session`, with its clauses, under its name in C.
 // It keeps no state.
+// kept: an export is one call of the library's function, under its clauses and over what C lends: no crate can stand on a static library.
 // Numbers: those of `ngt1_session`; none is made here, and no function requires anything. What C must keep to is in bindings/c/ngt1.h.
-// Place: on `ngt1_session` alone, and on what its clauses cite (`phases`, `tx_list`, `lists`, `field`); libngt1.a (`ngt1_c`) has the other layers.
+// Place: on `ngt1_session` alone, and on what its clauses cite (`session`, `tx_list`, `lists`, `field`); libngt1.a (`ngt1_c`) has the other layers.
 #![tactic(auto)]
 
 ghost use Rattle.std.specs.Prelude.{◌≡◌, List, ℕ, eqb, length};
 ghost use Rattle.field.specs.Pick.{pick};
 ghost use Rattle.tx_list.specs.Reading as model;
-ghost use Rattle.phases.specs.Sync.{called, set_to, restarted, abandoned, lack_of};
-ghost use Rattle.phases.specs.Lent.{Arrays, Fits, lent, sync_of, begun_in, hand, handed};
+ghost use Rattle.session.specs.Sync.{called, set_to, restarted, abandoned, lack_of};
+ghost use Rattle.session.specs.Lent.{Arrays, Fits, lent, sync_of, begun_in, hand, handed};
 ghost use Rattle.ngt1_session.specs.Session.{numbers_in, leaves, answers, rests_on, told_on, told_part_on, hears, hears_part, add_told, adds_on, ignores_on, renewed_on, renews, lack_number, asks};
 
 use lists::F2List;

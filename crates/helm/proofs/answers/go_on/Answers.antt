@@ -4,20 +4,20 @@ use Rattle.helm.specs.declared.steps.Step.{Step}
 use Rattle.helm.specs.Steps.{told_step}
 use Rattle.helm.proofs.answers.go_on.Goals as goal
 
-pub returns-then-old-gt1 : goal.returns-then-old-gt1
+pub returns-then-old-gt1-clause-left : goal.returns-then-old-gt1-clause-left
 unfolding goes_on
-returns-then-old-gt1 g c = λ st. rw (lt-ltb 1 c.args.old.owed c.if-old-gt1.true) (c.ask_next.ensures st)
+returns-then-old-gt1-clause-left g c = λ st. rw (lt-ltb 1 c.args.old.owed c.if-old-gt1.true) (c.ask_next.ensures.left st)
 
-pub returns-then-old-eq0 : goal.returns-then-old-eq0
+pub returns-then-old-eq0-clause-left : goal.returns-then-old-eq0-clause-left
 unfolding goes_on
-returns-then-old-eq0 g c =
+returns-then-old-eq0-clause-left g c =
     λ st.
     rw (le-ltb 1 c.args.old.owed c.if-old-gt1.false, eq-eqb c.args.old.fresh 0 c.if-old-eq0.true)
     (ap (λ (r : Step). told_step r (g.M.Memory.stored c.args.memory.now)) c.awaiting.ensures)
 
-pub returns : goal.returns
+pub returns-clause-left : goal.returns-clause-left
 unfolding goes_on
-returns g c =
+returns-clause-left g c =
     λ st.
     rw (le-ltb 1 c.args.old.owed c.if-old-gt1.false, ne_eqb c.args.old.fresh 0 c.if-old-eq0.false)
     (ap (λ (r : Step). told_step r (g.M.Memory.stored c.args.memory.now)) c.awaiting-2.ensures)

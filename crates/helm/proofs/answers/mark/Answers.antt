@@ -1,25 +1,24 @@
 use Rattle.std.proofs.Common.{◌≡◌, ◌&&◌, ap, ◌∙◌, List, ℕ, not, take, get_or}
 use Rattle.numbers.specs.Layout.{is_set}
-use Rattle.tx_list.specs.Views.{has, is_good, answer_of}
-use Rattle.helm.specs.declared.answers.Passed.{Passed}
-use Rattle.helm.specs.Steps.{passed_by}
+use Rattle.tx_list.specs.Views.{has, Answer, is_good, is_there, is_denied, is_fresh, answer_of}
 use Rattle.helm.specs.Stored.{session_at}
 use Rattle.helm.proofs.AnswerLaws.{good_by, there_by, denied_by, fresh_by, marked_by}
 use Rattle.helm.proofs.answers.mark.Goals as goal
 
-pub returns : goal.returns
-returns g c = λ st.
+pub returns-clause-left : goal.returns-clause-left
+returns-clause-left g c = λ st.
     let s = g.M.Memory.stored c.args.memory.now in
     let n = c.args.old in
     let m = c.args.payload.now in
     let p = get_or c.array.result.now 0 0 in
     let a = answer_of m in
-    let said : c.passed_by-said.result ≡ passed_by a = c.passed_by-said.ensures ∙ ap passed_by c.enable_result.ensures in
-    let lacked : not c.contains-lacked.result ≡ not (has p (take n.known s.known)) =
-    ap not (c.contains-lacked.ensures ∙ ap (λ (k : List ℕ). has p (take n.known k)) c.array-2.ensures.array) in
-    let unsaved : not c.contains-unsaved.result ≡ not (has p (take n.saved s.saved)) =
-    ap not (c.contains-unsaved.ensures ∙ ap (λ (k : List ℕ). has p (take n.saved k)) c.array-3.ensures.array) in
-    let good : c.passed_by-said.result.good ≡ is_good a = ap (λ (x : Passed). x.good) said ∙ good_by a in
+    let r = c.enable_result-said.result in
+    let said = c.enable_result-said.ensures in
+    let lacked : not c.has-lacked.result ≡ not (has p (take n.known s.known)) =
+    ap not (c.has-lacked.ensures ∙ ap (λ (k : List ℕ). has p (take n.known k)) c.array-2.ensures.array) in
+    let unsaved : not c.has-unsaved.result ≡ not (has p (take n.saved s.saved)) =
+    ap not (c.has-unsaved.ensures ∙ ap (λ (k : List ℕ). has p (take n.saved k)) c.array-3.ensures.array) in
+    let good : c.ne.result ≡ is_good a = c.ne.ensures ∙ good_by r ∙ ap is_good said in
     let known = c.push_if-known.ensures.count in
     let present = c.push_if-present.ensures.count in
     let refused = c.push_if-refused.ensures.count in
@@ -33,9 +32,9 @@ returns g c = λ st.
     p
     (ap (λ (o : List ℕ). get_or o 0 0) c.array.ensures.array)
     (λ i. is_set n.read && (good i && lacked i))
-    (ap (λ (x : Passed). x.there) said ∙ there_by a)
-    (ap (λ (x : Passed). not x.good) said ∙ denied_by a)
-    ((λ i. (said i).now && unsaved i) ∙ fresh_by a p (take n.saved s.saved))
+    (c.eq.ensures ∙ there_by r ∙ ap is_there said)
+    (c.eq-2.ensures ∙ denied_by r ∙ ap is_denied said)
+    ((λ i. c.eq-3.ensures i && unsaved i) ∙ fresh_by r p (take n.saved s.saved) ∙ ap (λ (x : Answer). is_fresh x p (take n.saved s.saved)) said)
     c.push_if-known.ensures.items
     c.push_if-present.ensures.items
     c.push_if-refused.ensures.items

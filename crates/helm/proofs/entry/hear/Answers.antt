@@ -1,5 +1,5 @@
 use Rattle.std.proofs.Common.{ap, ◌∙◌}
-use Rattle.phases.specs.Sync.{wrote_step}
+use Rattle.session.specs.Sync.{wrote_step}
 use Rattle.helm.specs.declared.stored.Numbers.{Numbers}
 use Rattle.helm.specs.Steps.{minded, overfills, heard_by}
 use Rattle.helm.proofs.entry.hear.Goals as goal
@@ -14,9 +14,9 @@ heard-step-requires g c =
       room = ap (λ (n : Numbers). overfills l n s m) c.of-tested.ensures ∙ c.requires.list;
     }
 
-pub returns : goal.returns
-returns g c =
+pub returns-clause-left : goal.returns-clause-left
+returns-clause-left g c =
     let l = g.M.Memory.limits in
     let s = g.M.Memory.stored c.args.memory.now in
-    c.finish.ensures
-    ∙ ap (λ x. wrote_step x c.args.out.now) (c.heard-step.ensures ∙ ap (λ (n : Numbers). heard_by l n s c.args.at.ms c.args.payload.now) c.of-tested.ensures)
+    c.finish.ensures.left
+    ∙ ap (λ x. wrote_step x c.args.out.now) (c.heard-step.ensures.left ∙ ap (λ (n : Numbers). heard_by l n s c.args.at.ms c.args.payload.now) c.of-tested.ensures)

@@ -4,9 +4,9 @@ use Rattle.bounds.specs.declared.Limits.{Limits}
 use Rattle.numbers.specs.Layout.{state_of as state_by}
 use Rattle.tx_list.specs.Reading.{taken, refuse}
 use Rattle.tx_list.specs.Moves.{full_in, heard}
-use Rattle.phases.specs.Sync.{step_of, wrote_step}
-use Rattle.phases.specs.Lent.{minds_in}
-use Rattle.phases.proofs.CallLaws.{message_far, message_long, message_small, message_full, message_taken}
+use Rattle.session.specs.Sync.{step_of, wrote_step}
+use Rattle.session.specs.Lent.{minds_in}
+use Rattle.session.proofs.CallLaws.{message_far, message_long, message_small, message_full, message_taken}
 use Rattle.helm.specs.declared.stored.Numbers.{Numbers}
 use Rattle.helm.specs.Stored.{kind_of, is_well_formed, session_in, session_of}
 use Rattle.helm.proofs.HeardLaws.{within}
@@ -117,6 +117,6 @@ returns-clause-left g c =
     let a : c.in-Some.at.ms ≡ c.args.time = c.in-Some.ensures.value in
     let q : (full_in (kind_of l) (session_in s).state (session_in s) m) ≡ false =
     sym (c.is_full.ensures s ∙ (λ i. full_in (kind_of (c.limits.ensures i)) (state_by (n i).phase (n i).attempt) (session_of (n i) s) m)) ∙ c.if-is_full.false in
-    c.hear.ensures
+    c.hear.ensures.left
     ∙ (λ i. wrote_step (step_of (heard (kind_of l) (session_in s).state (session_in s) (a i) m)) o)
     ∙ message_judged l s g.met.M.Memory.limits_fit c.sized.ensures o c.args.time m (length o) taken e (message_taken c.args.time m (length o) (full_in (kind_of l) (session_in s).state (session_in s) m) h c.if-payload-gt-MESSAGE_LIMIT.false c.if-out-lt-OUTPUT_ROOM.false q)

@@ -5,7 +5,7 @@ use Rattle.helm.specs.Stored.{session_at}
 use Rattle.helm.specs.Steps.{told_step}
 use Rattle.helm.proofs.parts.keep.Goals as goal
 
-pub returns : goal.returns
-returns g c =
+pub returns-clause-left : goal.returns-clause-left
+returns-clause-left g c =
     ap (λ (r : Step). told_step r (g.M.Memory.stored c.set_parts.new.self)) c.awaiting.ensures
     ∙ (λ i. record { sent = []; sync = session_at (ReadingF2 c.args.attempt) (record c.args.old { proprietary = c.args.parts.proprietary.list.n; blank = 0; due = c.args.at.ms + 10000 }) (c.set_parts.ensures i) })

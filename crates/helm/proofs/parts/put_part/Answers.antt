@@ -1,6 +1,6 @@
 use Rattle.std.proofs.Common.{ℕ, ap, ◌∙◌, true, false, List}
 use Rattle.lists.specs.Format2.{add_supported, add_enabled}
-use Rattle.phases.specs.ReadingLaws.{put_as}
+use Rattle.session.specs.ReadingLaws.{put_as}
 use Rattle.helm.proofs.parts.put_part.Goals as goal
 
 pub returns-then-starts : goal.returns-then-starts

@@ -1,18 +1,18 @@
 use Rattle.std.proofs.Common.{arith, ap, ◌∙◌, false}
 use Rattle.tx_list.specs.Moves.{gets}
-use Rattle.phases.specs.Sync.{kind, step_of}
-use Rattle.phases.specs.LentReading.{ended}
+use Rattle.session.specs.Sync.{kind, step_of}
+use Rattle.session.specs.LentReading.{ended}
 use Rattle.helm.specs.declared.stored.Which.TheVariants.{Known}
 use Rattle.helm.specs.Stored.{Stored, with_array, session_at}
 use Rattle.helm.proofs.reading.end.Goals as goal
 
-pub returns : goal.returns
-returns g c =
+pub returns-clause-left : goal.returns-clause-left
+returns-clause-left g c =
     let s = g.M.Memory.stored c.args.memory.now in
-    let u = g.M.Memory.stored c.copy.new.memory in
-    let n = c.args.old in
+    let u = g.M.Memory.stored c.know_list.new.self in
+    let n = c.args.tested.numbers in
     let z = c.sized.ensures in
-    let d = ended n.list s.list s.known u.known (omega (arith, z.list, c.requires.list)) (omega (arith, z.known, c.requires.list, g.met.M.Memory.limits_fit.known)) (ap (λ (y : Stored). y.known) c.copy.ensures) in
+    let d = ended n.list s.list s.known u.known (omega (arith, z.list, c.args.tested.within.list)) (omega (arith, z.known, c.args.tested.within.list, g.met.M.Memory.limits_fit.known)) (ap (λ (y : Stored). y.known) c.know_list.ensures) in
     λ st.
-    c.got.ensures st s.known z.known d.1
-    ∙ (λ i. step_of (gets kind (session_at st n (with_array (c.copy.ensures i) Known s.known)) (d.0 i) false c.args.at.ms))
+    c.got.ensures.left st s.known z.known d.1
+    ∙ (λ i. step_of (gets kind (session_at st n (with_array (c.know_list.ensures i) Known s.known)) (d.0 i) false c.args.at.ms))

@@ -3,16 +3,16 @@ use Rattle.helm.specs.Steps.{asked_none, asked_some}
 use Rattle.helm.proofs.ReadLaws.{got_none, got_some, by_count}
 use Rattle.helm.proofs.reading.got.Goals as goal
 
-pub returns : goal.returns
-returns g c = λ st k z q.
+pub returns-clause-left : goal.returns-clause-left
+returns-clause-left g c = λ st k z q.
     let s = g.M.Memory.stored c.args.memory.now in
     let u = g.M.Memory.stored c.note_present-known.new.memory in
     let v = g.M.Memory.stored c.owe-owed.new.memory in
-    let n = c.args.old in
+    let n = c.args.tested.numbers in
     let f = λ (x : ℕ). record n { read = 1; complete = x; known = c.note_present-known.result } in
-    let within : c.args.count ≤ length s.known = omega (arith, c.sized.ensures.known, c.requires.room) in
-    let room : c.args.count + n.present ≤ length k = omega (arith, z, c.requires.room, c.requires.present) in
-    let wide : n.wanted ≤ length s.owed = omega (arith, c.sized.ensures.owed, c.requires.wanted) in
+    let within : c.args.count ≤ length s.known = omega (arith, c.sized.ensures.known, c.requires) in
+    let room : c.args.count + n.present ≤ length k = omega (arith, z, c.requires, c.args.tested.within.present) in
+    let wide : n.wanted ≤ length s.owed = omega (arith, c.sized.ensures.owed, c.args.tested.within.wanted) in
     by_count c.owe-owed.result
     (λ e.
     c.ask.ensures.none e

@@ -1,5 +1,5 @@
 use Rattle.std.proofs.Common.{sym, ◌∙◌}
-use Rattle.phases.specs.Lent.{minds_in}
+use Rattle.session.specs.Lent.{minds_in}
 use Rattle.helm.proofs.stored.Numbers.minds.Goals as goal
 
 pub returns-in-AwaitStartup : goal.returns-in-AwaitStartup

@@ -3,8 +3,8 @@ use Rattle.std.proofs.Common.{arith, ap, ◌∙◌, le-leb}
 use borrow.Author.Tests.{lt-leb}
 use Rattle.tx_list.specs.Moves.{late, ticked}
 use Rattle.tx_list.specs.declared.State.{State}
-use Rattle.phases.specs.Sync.{step_of}
-use Rattle.helm.specs.declared.words.Sent.TheVariants.{Nothing}
+use Rattle.session.specs.Sync.{step_of}
+use Rattle.std.specs.Prelude.{None}
 use Rattle.helm.specs.declared.steps.Step.{Step}
 use Rattle.helm.specs.Stored.{kind_of, session_at}
 use Rattle.helm.specs.Steps.{told_step}
@@ -20,4 +20,4 @@ pub returns-else-self-ms : goal.returns-else-self-ms
 unfolding ticked
 returns-else-self-ms c = λ s.
     rw (lt-leb c.args.self.due c.args.at.ms (omega (arith, c.if-self-ms.false, c.ms.ensures)))
-    (ap (λ (q : Step). told_step q s) c.stay.ensures ∙ ap (λ (st : State). told_step (record { sent = Nothing; state = st; numbers = c.args.self }) s) c.state-state.ensures)
+    (ap (λ (q : Step). told_step q s) c.stay.ensures ∙ ap (λ (st : State). told_step (record { sent = None; state = st; numbers = c.args.self }) s) c.state-state.ensures)

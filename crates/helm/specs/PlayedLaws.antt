@@ -1,0 +1,294 @@
+-- A call of a helm's machine is a step of a run (session/specs/Played): where it answers and leaves what its contract says, and the rest is a run
+-- from the session that it left, the whole is a run. A run starts from what begin leaves (session/specs/LentPlayed), or restart; and what is
+-- said of its end is what is_done and lacks answer (session/specs/StartUp). And every session can be held by a machine. The limits of `Helm`
+-- and of `Lent` are the same, so all of it stands for both. Assumes nothing.
+use Rattle.std.specs.Prelude.{ℕ, ◌<◌, ◌≤◌, ltb, ◌≡◌, refl, Bool, true, false, List, [], ◌∷◌, ◌++◌, length, take, get_or, Result, Ok, Err, Option, Some, None}
+use Rattle.std.specs.Borrow.{GName}
+use Rattle.std.proofs.Common.{arith, sym, ap, ◌∙◌, le-ltb, le-leb, ne_eqb, ltb-true, ltb-false}
+use Rattle.field.specs.Pick.{pick}
+use Rattle.numbers.specs.Layout.{is_set, one, state_of, phase_of, attempt_of}
+use Rattle.tx_list.specs.Reading.{Call, message, tick, firmware}
+use Rattle.lists.specs.declared.F2List.{F2List}
+use Rattle.tx_list.specs.Session as model
+use Rattle.tx_list.specs.Session.{Session, Record, begin_by, begins, all_le, old_bounds, Lacks, silent, from_whole, from_part}
+use Rattle.tx_list.specs.Memory.{Sized, abs_flat}
+use Rattle.tx_list.specs.declared.State.{State}
+use Rattle.tx_list.specs.declared.State.TheVariants.{AwaitStartup, ReadAt, ReadingF2, Reading as ReadingF1, Enabling, Committing, Activating, Done}
+use Rattle.session.specs.Sync as one_session
+use Rattle.tx_list.specs.Stored.{opens, answer}
+use Rattle.tx_list.specs.Session.{begin}
+use Rattle.tx_list.specs.Live.{Gateway, Helpful, Mixed, start_up_run}
+use Rattle.session.specs.Sync.{Sync, Begun, IsDone, kind, store, clear, begun, begun_with, record_of, learned_in}
+use Rattle.session.specs.Lent.{Fits, begun_in}
+use Rattle.session.specs.LentLaws.{sized}
+use Rattle.session.specs.LentPlayed.{InLentMemory}
+use Rattle.session.specs.Played.{Played, Holds, held_by, message', tick', firmware'}
+use Rattle.session.specs.StartUp.{StartedUp}
+use Rattle.helm.specs.declared.words.Refusal.{Refusal}
+use Rattle.helm.specs.declared.words.Lack.{Lack}
+use Rattle.helm.specs.declared.words.Lack.TheVariants.{FromWhole, FromPart}
+use Rattle.helm.specs.declared.machines.Helm.{Helm}
+use Rattle.helm.specs.declared.lent.Lent.{Lent}
+use Rattle.helm.specs.Words.{refusal_number}
+use Rattle.helm.specs.Stored.{Stored, HasSizes, session_in}
+use Rattle.helm.specs.Calls as contracts
+use Rattle.helm.specs.Calls.{told, told_done, called, set_to, restarted, abandoned, Said, says, refuses, told_lacks}
+use Rattle.helm.specs.Machines.{SameLoans, helm_limits, helm_stored, lent_stored, told_begun}
+use Rattle.helm.specs.Linked.{as_lent, arrays_in}
+
+-- how many bytes a call wrote
+abbrev pub count_in : Result ℕ Refusal → ℕ
+count_in (Ok n) = n
+count_in (Err e) = 0
+
+-- what a call's `loans` promises its lender: the machine holds the same references, each in its place, so that what it leaves stands in what
+-- was lent
+pub loans_held : (a b : Lent) → (lent_stored a).loans ≡ (lent_stored b).loans → SameLoans a b
+loans_held a b e =
+    let at = λ (i : ℕ) (l : List GName). get_or l i b.numbers.ghost_name in
+    record {
+      numbers = ap (at 0) e;
+      wanted = ap (at 1) e;
+      owed = ap (at 2) e;
+      fresh = ap (at 3) e;
+      list = ap (at 4) e;
+      known = ap (at 5) e;
+      saved = ap (at 6) e;
+      present = ap (at 7) e;
+      refused = ap (at 8) e;
+    }
+
+-- with arrays of a helm's lengths, those that theorems about a begin in lent memory (`Fits`) and about a restart (`Sized`) ask for
+pub fits_held : (s : Stored) → HasSizes helm_limits s → Fits (arrays_in s)
+fits_held s z =
+    record {
+      wanted_64 = z.wanted;
+      owed_64 = z.owed;
+      fresh_64 = z.fresh;
+      list_1024 = z.list;
+      known_1344 = z.known;
+      saved_256 = z.saved;
+      present_256 = z.present;
+      refused_256 = z.refused;
+    }
+
+pub sized_held : (s : Stored) → HasSizes helm_limits s → Sized kind (session_in s)
+sized_held s z = sized (as_lent s.numbers) (arrays_in s) (fits_held s z)
+
+-- what begin answers and leaves, in any phase and whatever stood in the arrays before, is what `begun_in` says, of which the theorems about
+-- a begin in lent memory speak
+pub begun_held : (s : Stored) (want : List ℕ) → contracts.begun_with helm_limits s want ≡ begun_in (as_lent s.numbers) want (arrays_in s)
+unfolding begun_in
+begun_held s want = refl
+
+-- so a begin refuses what the model's begin refuses, with the same number: the record is what stands in the arrays (s before, t after)
+pub begin_refusal : (theorems : InLentMemory) (s t : Stored) → HasSizes helm_limits s
+    → (want : List ℕ) {A : Type 0} (r : Result A Refusal)
+    → told_done r t ≡ contracts.begun_with helm_limits s want
+    → (told_done r t).number ≡ (begun_with want (record_of (learned_in (session_in s)))).number
+begin_refusal theorems s t z want r left =
+    ap (λ (x : Begun). x.number) (left ∙ begun_held s want) ∙ theorems.begin_number (as_lent s.numbers) want (arrays_in s) (fits_held s z)
+
+-- and of a begin that is taken
+module _ (theorems : InLentMemory) (s t : Stored) (sizes : HasSizes helm_limits s) (want : List ℕ) {A : Type 0} (u : A)
+    (left : told_done (Ok u) t ≡ contracts.begun_with helm_limits s want) {last : Sync} {calls : List Call} {bytes : List ℕ} where
+  -- demand 3 stands for every run from it
+  pub begin_demand_3 : Played (session_in t) calls last bytes → Holds want (record_of (learned_in (session_in s))) calls last bytes
+  begin_demand_3 p =
+      theorems.demand_3 (as_lent s.numbers) want (arrays_in s) (told_done (Ok u) t) (fits_held s sizes) (left ∙ begun_held s want) refl calls last
+      bytes p
+
+  -- and the start-up ends well, with any gateway that helps
+  pub begin_start_up : (g : Gateway)
+      → Helpful kind want (record_of (learned_in (session_in s))) g
+      → Mixed kind (record { session = held_by (session_in t); sent = [] }) (start_up_run kind want (record_of (learned_in (session_in s))) g) calls
+      → Played (session_in t) calls last bytes
+      → StartedUp want (record_of (learned_in (session_in s))) g last bytes
+  begin_start_up g f m p =
+      theorems.start_up (as_lent s.numbers) want (arrays_in s) (told_done (Ok u) t) (fits_held s sizes) (left ∙ begun_held s want) refl g f calls m
+      last bytes p
+
+-- what is_done answered, with the number of a refusal
+abbrev pub told_is_done : Result Bool Refusal → IsDone
+told_is_done (Ok b) = record { number = 0; done = b }
+told_is_done (Err e) = record { number = refusal_number e; done = false }
+
+-- what lacks said, with the number of a refusal
+abbrev pub told_said : Said → one_session.Said
+told_said (says x) = one_session.says x
+told_said (refuses e) = one_session.refused (refusal_number e)
+
+-- where the phase is one of the eight, the contracts of a machine with a helm's limits are those of the session that it holds
+module _ (s : Stored) (h : s.numbers.phase ≤ 7) where
+  pub called_held : (x : Call) (out : List ℕ) → called helm_limits s x out ≡ one_session.called (session_in s) x out
+  called_held x out = rw (le-ltb 7 s.numbers.phase h) refl
+
+  pub set_to_held : (v : ℕ) → set_to helm_limits s v ≡ one_session.set_to (session_in s) v
+  set_to_held v = rw (le-ltb 7 s.numbers.phase h) refl
+
+  pub restarted_held : restarted helm_limits s ≡ one_session.restarted (session_in s)
+  restarted_held = rw (le-ltb 7 s.numbers.phase h) refl
+
+  pub abandoned_held : abandoned helm_limits s ≡ one_session.abandoned (session_in s)
+  abandoned_held = rw (le-ltb 7 s.numbers.phase h) refl
+
+  -- what is_done answers, with the number of a refusal: a start-up ends where it answers yes
+  pub done_held : told_is_done (contracts.done_of (contracts.state_of helm_limits s)) ≡ one_session.done_of (session_in s)
+  done_held = rw (le-leb s.numbers.phase 7 h) (by_test (one_session.sound (session_in s)) (abs_flat (session_in s)))
+    where
+      by_test : (b : Bool) (m : Session F2List ℕ)
+          → told_is_done (contracts.done_of (pick b (Some m) None)) ≡ pick b (record { number = 0; done = model.is_done m.phase }) (record { number = 16; done = false })
+      by_test true m = refl
+      by_test false m = refl
+
+  -- and what lacks says of a PGN: at the end of a start-up nothing, where the PGN is wanted and was not refused before
+  pub lack_held : (p : ℕ) → told_said (contracts.lack_of (contracts.state_of helm_limits s) p) ≡ one_session.lack_of (session_in s) p
+  lack_held p = rw (le-leb s.numbers.phase 7 h) (by_test (one_session.sound (session_in s)) (abs_flat (session_in s)))
+    where
+      by_test : (b : Bool) (m : Session F2List ℕ)
+          → told_said (contracts.lack_of (pick b (Some m) None) p) ≡ pick b (one_session.says (model.lacks m.known p)) (one_session.refused 16)
+      by_test true m = refl
+      by_test false m = refl
+
+  -- the calls, with the memory before (s) and after (t)
+  module _ (t : Stored) {last : Sync} {calls : List Call} {bytes : List ℕ} where
+    pub machine_message : (r : Result ℕ Refusal) (time : ℕ) (payload out left : List ℕ)
+        → told r t left ≡ called helm_limits s (message time payload (length out)) out
+        → Played (session_in t) calls last bytes
+        → Played (session_in s) (message time payload (length out) ∷ calls) last (take (count_in r) left ++ bytes)
+    machine_message (Ok n) time payload out left e p =
+        message' (told (Ok n) t left) time payload out (e ∙ called_held (message time payload (length out)) out) p
+    machine_message (Err x) time payload out left e p =
+        message' (told (Err x) t left) time payload out (e ∙ called_held (message time payload (length out)) out) p
+
+    pub machine_tick : (r : Result ℕ Refusal) (time : ℕ) (out left : List ℕ)
+        → told r t left ≡ called helm_limits s (tick time (length out)) out
+        → Played (session_in t) calls last bytes
+        → Played (session_in s) (tick time (length out) ∷ calls) last (take (count_in r) left ++ bytes)
+    machine_tick (Ok n) time out left e p = tick' (told (Ok n) t left) time out (e ∙ called_held (tick time (length out)) out) p
+    machine_tick (Err x) time out left e p = tick' (told (Err x) t left) time out (e ∙ called_held (tick time (length out)) out) p
+
+    pub machine_firmware : {A : Type 0} (r : Result A Refusal) (version : ℕ)
+        → told_done r t ≡ set_to helm_limits s version
+        → Played (session_in t) calls last bytes
+        → Played (session_in s) (firmware version ∷ calls) last bytes
+    machine_firmware (Ok u) version e p = firmware' (told_done (Ok u) t) version (e ∙ set_to_held version) p
+    machine_firmware {A} (Err x) version e p = firmware' (told_done {A = A} (Err x) t) version (e ∙ set_to_held version) p
+
+-- what `lacks` says loses nothing
+abbrev lack_back : Lacks → Option Lack
+lack_back silent = None
+lack_back from_whole = Some FromWhole
+lack_back from_part = Some FromPart
+
+abbrev lacks_back : Said → Result (Option Lack) Refusal
+lacks_back (says x) = Ok (lack_back x)
+lacks_back (refuses e) = Err e
+
+back_told : (a : Result (Option Lack) Refusal) → lacks_back (told_lacks a) ≡ a
+back_told (Ok None) = refl
+back_told (Ok (Some FromWhole)) = refl
+back_told (Ok (Some FromPart)) = refl
+back_told (Err e) = refl
+
+pub lacks_tells : (a b : Result (Option Lack) Refusal) → told_lacks a ≡ told_lacks b → a ≡ b
+lacks_tells a b e = sym (back_told a) ∙ ap lacks_back e ∙ back_told b
+
+-- a machine that holds a session
+abbrev pub helm_of : Sync → Helm
+helm_of h =
+    record {
+      numbers =
+          record {
+            phase = phase_of h.state;
+            attempt = attempt_of h.state;
+            due = h.deadline;
+            wanted = h.wanted.n;
+            owed = h.owed.n;
+            fresh = h.fresh.n;
+            list = h.list.n;
+            proprietary = h.f2.proprietary.list.n;
+            known = h.known.n;
+            saved = h.saved.n;
+            present = h.present.n;
+            refused = h.refused.n;
+            read = one h.is_known;
+            complete = one h.complete;
+            told = one h.told;
+            version = h.version;
+            blank = 0;
+          };
+      wanted = h.wanted.items;
+      owed = h.owed.items;
+      fresh = h.fresh.items;
+      list = h.list.items;
+      known = h.known.items;
+      saved = h.saved.items;
+      present = h.present.items;
+      refused = h.refused.items;
+      parts = h.f2;
+    }
+
+pub state_back : (st : State) → state_of (phase_of st) (attempt_of st) ≡ st
+state_back AwaitStartup = refl
+state_back ReadAt = refl
+state_back (ReadingF1 a) = refl
+state_back (ReadingF2 a) = refl
+state_back Enabling = refl
+state_back Committing = refl
+state_back Activating = refl
+state_back Done = refl
+
+flag_back : (b : Bool) → is_set (one b) ≡ b
+flag_back true = refl
+flag_back false = refl
+
+pub phase_small : (st : State) → phase_of st ≤ 7
+phase_small AwaitStartup = omega arith
+phase_small ReadAt = omega arith
+phase_small (ReadingF1 a) = omega arith
+phase_small (ReadingF2 a) = omega arith
+phase_small Enabling = omega arith
+phase_small Committing = omega arith
+phase_small Activating = omega arith
+phase_small Done = omega arith
+
+-- a session put into a machine and read back is the same, and its phase is one of the eight
+pub of_to : (h : Sync) → session_in (helm_stored (helm_of h)) ≡ h
+of_to h =
+    λ i. record h { state = state_back h.state i; is_known = flag_back h.is_known i; complete = flag_back h.complete i; told = flag_back h.told i }
+
+pub phase_to : (h : Sync) → (helm_stored (helm_of h)).numbers.phase ≤ 7
+phase_to h = phase_small h.state
+
+-- a machine that holds a session in this way is read and put back unchanged
+pub to_of : (h : Sync) → helm_of (session_in (helm_stored (helm_of h))) ≡ helm_of h
+to_of h = ap helm_of (of_to h)
+
+-- a phase over 7 is taken as done; so one that is not done is one of the eight
+past_done : (p a : ℕ) → 7 < p → state_of p a ≡ Done
+past_done p a h =
+    rw (ne_eqb p 0 (λ e. omega arith), ne_eqb p 1 (λ e. omega arith), ne_eqb p 2 (λ e. omega arith), ne_eqb p 3 (λ e. omega arith), ne_eqb p 4 (λ e. omega arith), ne_eqb p 5 (λ e. omega arith), ne_eqb p 6 (λ e. omega arith))
+    refl
+
+pub not_done_small : (p a : ℕ) → (state_of p a ≡ Done → ⊥) → p ≤ 7
+not_done_small p a h = go (ltb 7 p) refl
+  where
+    go : (b : Bool) → ltb 7 p ≡ b → p ≤ 7
+    go true e = absurd (h (past_done p a (ltb-true 7 p e)))
+    go false e = ltb-false 7 p e
+
+-- a session just begun has a phase of the eight
+pub begun_small : (h : Helm) (w : List ℕ) (r : Record ℕ) → told_begun (Ok h) ≡ begun_with w r → h.numbers.phase ≤ 7
+unfolding opens answer begin begin_by begins
+begun_small h w r e =
+    not_done_small h.numbers.phase h.numbers.attempt
+    (λ d. waits_done (sym (waits (ltb 64 (length w)) (all_le (old_bounds kind r))) ∙ ap (λ (x : Begun). x.sync.state) (sym e) ∙ d))
+  where
+    waits : (a b : Bool) → (begun (answer kind store clear (begin_by kind a b w r))).sync.state ≡ AwaitStartup
+    waits true b = refl
+    waits false true = refl
+    waits false false = refl
+
+    waits_done : AwaitStartup ≡ Done → ⊥
+    waits_done e = let z : ◌≡◌ {A = ℕ} 0 7 = ap phase_of e in omega arith
