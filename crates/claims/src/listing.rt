@@ -22,7 +22,7 @@ pub fn names()
         ≡ ascii "mode" ∷ ascii "pcode" ∷ ascii "supported" ∷ ascii "product-info" ∷ ascii "enable" ∷ ascii "tx-list-f1" ∷ ascii "tx-list-f2" ∷ ascii "startup" ∷ ascii "error" ∷ ascii "nack" ∷ ascii "other" ∷ [] }
 {}
 
-/// Document 01's example: the listing of 10 02 A1 01 41 1D 10 03 10 03 is the two lines printed there.
+/// The program's example: the listing of 10 02 A1 01 41 1D 10 03 10 03 is these two lines.
 #[tactic(auto, using(crate::specs::Listing::example))]
 pub fn example()
     ensures { (buf : List ℕ) → 1024 ≤ length buf

@@ -1,6 +1,6 @@
 // The transmit-list session: the claim about every run of it, the start-up with a gateway that helps, and what is told of a PGN then.
 ghost use Rattle.std.specs.Prelude.{Bool, true, false, not, ◌&&◌, ◌||◌, ◌≡◌, List, ℕ};
-ghost use Rattle.phases.specs.Sync.{Sync, kind, begun_with};
+ghost use Rattle.session.specs.Sync.{Sync, kind, begun_with};
 ghost use Rattle.session.specs.LentPlayed.{InLentMemory};
 ghost use Rattle.session.specs.Played.{Played, Demand3, Taken, held_by};
 ghost use Rattle.session.specs.StartUp.{StartUp, StartedUp};

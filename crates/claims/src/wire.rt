@@ -1,4 +1,4 @@
-// Framing, records, replies and commands on the wire, and the rows of document 01 that are marked P.
+// Framing, records, replies and commands on the wire, and the rows of worked examples.
 ghost use Rattle.std.specs.Prelude.{ℕ, ◌+◌, ◌≤◌, ◌<◌, ◌≡◌, List, [], ◌∷◌, ◌++◌, length, get_or, take};
 ghost use Rattle.field.specs.Fields.{Bytes};
 ghost use Rattle.framing.specs.Agreement.{ReadBack};
@@ -66,18 +66,18 @@ pub fn reading()
 /// Every payload of 12 bytes or more is the layout of what is read from it: nothing is lost or made up.
 #[tactic(auto, using(crate::specs::Replies::nothing_lost))]
 pub fn nothing_lost()
-    ensures { (s : List ℕ) → Whole s → layout (response_of s) ≡ s }
+    ensures { (s : List _) → Whole s → layout (response_of s) ≡ s }
 {}
 
 /// There is no other way to read a reply.
 pub fn no_other_reading()
-    ensures { (f : List ℕ → Response) → ((r : Response) → InRange r → f (layout r) ≡ r) → (s : List ℕ) → Whole s → f s ≡ response_of s }
+    ensures { (f : List _ → Response) → ((r : Response) → InRange r → f (layout r) ≡ r) → (s : List _) → Whole s → f s ≡ response_of s }
 {}
 
 /// A reply that the gateway frames, fed to the decoder with any bytes after it, arrives: one message at the frame's last byte, and what is
 /// read from the payload handed back is the reply, with the mode that it reports.
 pub fn arrival()
-    ensures { (s : State) (r : Response) (rest : List ℕ) → Ready base s → InRange r → length (layout r) ≤ 255 → Arrives s r rest }
+    ensures { (s : State) (r : Response) (rest : List _) → Ready base s → InRange r → length (layout r) ≤ 255 → Arrives s r rest }
 {}
 
 /// A command that was written, unframed by the base decoder, is that command and nothing else.
@@ -99,7 +99,8 @@ pub fn pair_arrives()
     ensures { (s : State) (out : List ℕ) (n d : ℕ) (o : List ℕ) → Ready base s → read_f2 out ≡ wrote n d o → PairBack s (0x40 ∷ []) (0x4F ∷ []) o n }
 {}
 
-/// The rows of document 01 that are marked P, for a new decoder over any buffer that is not refused.
+/// The rows of worked examples, for a new decoder over any buffer that is not refused: frames and streams with what is told of them, the
+/// error of a reply, and a map.
 pub fn rows()
     ensures { (buf : List ℕ) → 1024 ≤ length buf → Rows buf }
 {}

@@ -1,5 +1,5 @@
 // A call read: its op says which, and its body the rest.
-use framing::Phase;
+use framing::{EncodeError, Phase};
 use transcript::{Body, LentCall};
 
 const ENCODE: u8 = 0x12;
@@ -9,8 +9,9 @@ const LENT: u8 = 0x4A;
 // The most that a lent buffer can have.
 const MOST: usize = 1100;
 
-// kept: replay_encode has its own, of more messages
 // ENCODE: a message into a frame, in an area of so many bytes.
+// kept: no plainer: replay_encode has its own, of more messages; one for both would stand in `transcript`, and `transcript` then on
+// `framing`, `records` and `commands`
 #[derive(Clone, Copy)]
 pub(crate) struct Encode<'a> {
     pub command: u8,
@@ -29,14 +30,13 @@ impl<'a> Encode<'a> {
 }
 
 impl LentCall for Encode<'_> {
-    // The comparison with the Rust looks at what is answered; nothing is proved of it here.
+    // The oracle compares what is answered; nothing is proved of it here.
     ghost answers = { λ call old outcome new. Unit {0} };
 
     fn make(self, area: &mut [u8]) -> Result<usize, u8> {
-        match framing::encode_ngt_message(self.command, self.payload, area) {
-            Ok(written) => Ok(written.count),
-            Err(error) => Err(error.number()),
-        }
+        framing::encode_ngt_message(self.command, self.payload, area)
+            .map(|written| written.count)
+            .map_err(EncodeError::number)
     }
 }
 
@@ -65,23 +65,14 @@ pub(crate) enum Request<'a> {
     Lent(Encode<'a>),
 }
 
-// kept: the numbers of FORMAT.md, which a phase of the library has none of
 // The phase with a number, modulo 4.
+// kept: no plainer: any byte of FORMAT.md is a phase, while a conversion of the library would have to refuse those over 3
 fn phase_of(number: u8) -> Phase {
     match number % 4 {
         0 => Phase::Idle,
         1 => Phase::InFrame,
         2 => Phase::EscapeOutside,
         _ => Phase::EscapeInside,
-    }
-}
-
-pub(crate) fn number_of(phase: Phase) -> u8 {
-    match phase {
-        Phase::Idle => 0,
-        Phase::InFrame => 1,
-        Phase::EscapeOutside => 2,
-        Phase::EscapeInside => 3,
     }
 }
 

@@ -5,9 +5,6 @@ use framing::{DecodeError, Decoder, MAX_COLLECT, Phase};
 use std::alloc::{AllocError, Global};
 use transcript::{BLANK, Transcript};
 
-// More bytes than a decoder can hold.
-const NOT_WELL_FORMED: u8 = 16;
-
 #[derive(Drop)]
 pub(crate) struct Collector {
     decoder: Decoder,
@@ -15,6 +12,7 @@ pub(crate) struct Collector {
 }
 
 // Pushes all bytes by push_bytes.
+// kept: no plainer: the place of each event in the call is told; by what is left, taken shorter, each would be a difference of two lengths
 fn push_slices(
     decoder: &mut Decoder,
     lent: &mut [u8],
@@ -81,23 +79,23 @@ impl Collector {
         put_state(out, self.decoder, &self.lent);
     }
 
-    // The state after bytes that were pushed, or the number of the refusal.
-    fn pushed(&self, pushed: Result<(), DecodeError>, out: &mut Transcript<'_>) -> Option<u8> {
-        match pushed {
-            Ok(()) => {
-                self.put_state(out);
-                None
-            }
-            Err(error) => Some(error.number()),
-        }
+    // Puts the state after bytes that were pushed, where none was refused.
+    fn pushed(
+        &self,
+        pushed: Result<(), DecodeError>,
+        out: &mut Transcript<'_>,
+    ) -> Result<(), DecodeError> {
+        pushed?;
+        self.put_state(out);
+        Ok(())
     }
 
-    // Makes a call and puts the body of its answer, or gives the number of its refusal.
+    // Makes a call and puts the body of its answer, or gives its refusal.
     pub(crate) fn call(
         &mut self,
         call: Decode<'_>,
         out: &mut Transcript<'_>,
-    ) -> Result<Option<u8>, AllocError> {
+    ) -> Result<Result<(), DecodeError>, AllocError> {
         match call {
             Decode::Reset => {
                 self.set_raw(Phase::Idle, 0, MAX_COLLECT)?;
@@ -112,7 +110,7 @@ impl Collector {
                 return Ok(self.pushed(pushed, out));
             }
             Decode::Set { phase: _, held } if held.len() > MAX_COLLECT => {
-                return Ok(Some(NOT_WELL_FORMED));
+                return Ok(Err(DecodeError::CountTooLarge));
             }
             Decode::Set { phase, held } => {
                 self.set(phase, held)?;
@@ -121,6 +119,6 @@ impl Collector {
             Decode::Raw { phase, count, len } => self.set_raw(phase, count, len)?,
             Decode::Look => self.put_state(out),
         }
-        Ok(None)
+        Ok(Ok(()))
     }
 }

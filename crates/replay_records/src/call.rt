@@ -4,6 +4,7 @@ use product::{HeldParts, ProductInfo};
 use texts::{TEXT_MAX, Text};
 use transcript::Body;
 
+// kept: no plainer: what carries one out is handed the output and a product info apart, since `FirmwareIn` tells of another info.
 #[derive(Clone, Copy)]
 pub(crate) enum Request<'a> {
     Record { command: u8, payload: &'a [u8] },
@@ -24,6 +25,7 @@ pub(crate) enum Request<'a> {
 }
 
 // Parts as bits 1 to 5.
+// kept: no plainer: the bits are those of FORMAT.md, each of a field of its own.
 fn parts_of(bits: u8) -> HeldParts {
     HeldParts {
         numbers: bits & 2 != 0,
@@ -35,6 +37,7 @@ fn parts_of(bits: u8) -> HeldParts {
 }
 
 // So many 'x', kept to the text's 32 bytes; the count as given.
+// kept: a rule of the project (fixed memory) needs it: a text is 32 bytes and a count, and here the count may pass them.
 fn letters(count: u8) -> Text {
     let mut bytes = [0u8; TEXT_MAX];
     let count = usize::from(count);
@@ -56,6 +59,7 @@ fn raw(body: &mut Body<'_>) -> ProductInfo {
 }
 
 // The product info that FIRMWARE_IN makes: a software text of any count and bytes.
+// kept: as `letters`
 fn with_software(body: &mut Body<'_>) -> ProductInfo {
     let count = usize::from(body.take::<u8>());
     let mut bytes = [0u8; TEXT_MAX];

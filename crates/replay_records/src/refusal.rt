@@ -8,6 +8,7 @@ use replies::ReplyTooShort;
 pub(crate) struct Refusal(pub u8);
 
 // No such op.
+// kept: no plainer: of this program, as its refusals are; replay_session has an enum of other ones, and the programs of framing have numbers.
 pub(crate) const UNKNOWN: Refusal = Refusal(254);
 
 impl From<RecordError> for Refusal {

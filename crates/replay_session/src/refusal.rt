@@ -1,20 +1,29 @@
 // Why a call is refused.
+use helm::words;
 
-// The number that stands in the head of an answer with no body.
+/// Why an answer has no body, or why that of LENT_S has no more than the area.
 #[derive(Clone, Copy, Debug, PartialEq, Eq)]
-pub(crate) struct Refusal(pub u8);
+pub(crate) enum Refusal {
+    /// No such op or kind.
+    Unknown,
+    NoSession,
+    /// The session's own.
+    Session(words::Refusal),
+}
 
-// No such op.
-pub(crate) const UNKNOWN: Refusal = Refusal(254);
+impl Refusal {
+    /// The number in the head of the answer.
+    pub(crate) fn number(self) -> u8 {
+        match self {
+            Refusal::Unknown => 254,
+            Refusal::NoSession => 255,
+            Refusal::Session(refusal) => refusal.number(),
+        }
+    }
+}
 
-// No session.
-pub(crate) const NO_SESSION: Refusal = Refusal(255);
-
-// The refusal with a number, if it is one.
-pub(crate) fn refused(number: u8) -> Result<(), Refusal> {
-    if number == 0 {
-        Ok(())
-    } else {
-        Err(Refusal(number))
+impl From<words::Refusal> for Refusal {
+    fn from(refusal: words::Refusal) -> Self {
+        Refusal::Session(refusal)
     }
 }

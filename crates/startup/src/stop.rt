@@ -1,4 +1,6 @@
 // Why a run ends early.
+use crate::refused::Refused;
+use helm::words::Refusal;
 use scripts::LineError;
 use std::alloc::{AllocError, AllocFailed};
 use std::fmt;
@@ -8,7 +10,8 @@ pub(crate) enum Stop {
     Usage,
     // The argument at this place.
     NoPgn(usize),
-    TooManyWanted,
+    // The session does not begin.
+    Refused(Refusal),
     // The line of this number.
     BadLine(u64, LineError),
     LongLine(u64),
@@ -21,12 +24,21 @@ impl fmt::Display for Stop {
         match self {
             Stop::Usage => write!(f, "usage: startup PGN.. <SCRIPT"),
             Stop::NoPgn(i) => write!(f, "argument {i} is no PGN: a number up to 262143"),
-            Stop::TooManyWanted => write!(f, "refused with 11: over 64 PGNs are wanted"),
+            Stop::Refused(refusal) => {
+                let refused = Refused(*refusal);
+                write!(f, "{refused}")
+            }
             Stop::BadLine(number, error) => write!(f, "line {number}: {error}"),
             Stop::LongLine(number) => write!(f, "line {number}: longer than 65535 bytes"),
             Stop::Unreadable => write!(f, "standard input cannot be read"),
             Stop::OutOfMemory => write!(f, "out of memory"),
         }
+    }
+}
+
+impl From<Refusal> for Stop {
+    fn from(refusal: Refusal) -> Stop {
+        Stop::Refused(refusal)
     }
 }
 
