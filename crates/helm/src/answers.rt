@@ -7,6 +7,7 @@ ghost use Rattle.tx_list.specs.Moves.{marks, goes_on, asks_next, activated};
 ghost use Rattle.session.specs.Sync.{kind, step_of};
 ghost use Rattle.helm.specs.Stored.{capacity_of, session_at};
 ghost use Rattle.helm.specs.Steps.{told_step};
+ghost use Rattle.helm.specs.Hands.{hand_in};
 
 use crate::arrays::{push_if, sized};
 use crate::memory::Memory;
@@ -29,6 +30,7 @@ fn mark<M: Memory>(memory: &mut M, old: Numbers, payload: &[u8]) -> Numbers
     requires owed { 0 < capacity_of M.limits Which.Owed }
     ensures left { (st : State) → session_at st result (M.stored memory.new) ≡ marks kind (session_at st old (M.stored memory.old)) payload.now (answer_of payload.now) }
     ensures loans { (M.stored memory.new).loans ≡ (M.stored memory.old).loans }
+    ensures hand { hand_in result (M.stored memory.new) ≡ hand_in old (M.stored memory.old) }
 {
     let said = views::enable_result(payload);
     let pgn = memory.array(Which::Owed)[0];
@@ -86,6 +88,7 @@ fn ask_next<M: Memory>(memory: &mut M, old: Numbers, at: Moment) -> Step
     requires within { old.owed ≤ capacity_of M.limits Which.Owed }
     ensures left { (st : State) → told_step result (M.stored memory.new) ≡ step_of (asks_next kind (session_at st old (M.stored memory.old)) at.ms) }
     ensures loans { (M.stored memory.new).loans ≡ (M.stored memory.old).loans }
+    ensures hand { hand_in result.numbers (M.stored memory.new) ≡ hand_in old (M.stored memory.old) }
 {
     sized(memory);
     let next = memory.array(Which::Owed)[1];
@@ -100,6 +103,7 @@ fn go_on<M: Memory>(memory: &mut M, old: Numbers, at: Moment) -> Step
     requires { old.owed ≤ capacity_of M.limits Which.Owed }
     ensures left { (st : State) → told_step result (M.stored memory.new) ≡ step_of (goes_on kind (session_at st old (M.stored memory.old)) at.ms) }
     ensures loans { (M.stored memory.new).loans ≡ (M.stored memory.old).loans }
+    ensures hand { hand_in result.numbers (M.stored memory.new) ≡ hand_in old (M.stored memory.old) }
 {
     if 1 < old.owed {
         return ask_next(memory, old, at);
@@ -120,6 +124,7 @@ pub(crate) fn on_answer<M: Memory>(
     requires { state_of tested.numbers.phase tested.numbers.attempt ≡ State.Enabling }
     ensures left { (st : State) → told_step result (M.stored memory.new) ≡ step_of (goes_on kind (marks kind (session_at st tested.numbers (M.stored memory.old)) payload.now (answer_of payload.now)) at.ms) }
     ensures loans { (M.stored memory.new).loans ≡ (M.stored memory.old).loans }
+    ensures hand { hand_in result.numbers (M.stored memory.new) ≡ hand_in tested.numbers (M.stored memory.old) }
 {
     let marked = mark(memory, tested.numbers, payload);
     go_on(memory, marked, at)
@@ -129,6 +134,7 @@ pub(crate) fn on_answer<M: Memory>(
 pub(crate) fn save<M: Memory>(memory: &mut M, tested: Tested<M>, at: Moment) -> Step
     ensures left { (st : State) → told_step result (M.stored memory.new) ≡ step_of (activated kind good (session_at st tested.numbers (M.stored memory.old)) at.ms) }
     ensures loans { (M.stored memory.new).loans ≡ (M.stored memory.old).loans }
+    ensures hand { hand_in result.numbers (M.stored memory.new) ≡ hand_in tested.numbers (M.stored memory.old) }
 {
     sized(memory);
     let old = tested.numbers;

@@ -4,6 +4,7 @@ ghost use Rattle.session.specs.Sync.{wrote_step};
 ghost use Rattle.field.specs.Pick.{pick};
 ghost use Rattle.helm.specs.Stored.{is_well_formed, plain};
 ghost use Rattle.helm.specs.Steps.{told_step, minded, overfills, heard_by};
+ghost use Rattle.helm.specs.Hands.{hand_in, hand_after_message};
 ghost use Rattle.helm.specs.Calls.{told, called};
 ghost use Rattle.tx_list.specs.Reading as model;
 
@@ -27,6 +28,7 @@ fn finish<M: Memory>(memory: &mut M, step: Step, out: &mut [u8]) -> usize
     ensures phase { (M.stored memory.new).numbers.phase ≤ 7 }
     ensures form { (M.stored memory.new).numbers ≡ plain (M.stored memory.new).numbers }
     ensures loans { (M.stored memory.new).loans ≡ (M.stored memory.old).loans }
+    ensures hand { hand_in (M.stored memory.new).numbers (M.stored memory.new) ≡ hand_in step.numbers (M.stored memory.old) }
 {
     memory.set_numbers(step.left());
     write_sent(step.sent, out)
@@ -41,6 +43,7 @@ fn heard<M: Memory>(memory: &mut M, tested: Tested<M>, at: Moment, payload: &[u8
     requires room { overfills M.limits tested.numbers (M.stored memory.old) payload.now ≡ false }
     ensures left { told_step result (M.stored memory.new) ≡ heard_by M.limits tested.numbers (M.stored memory.old) at.ms payload.now }
     ensures loans { (M.stored memory.new).loans ≡ (M.stored memory.old).loans }
+    ensures hand { hand_in result.numbers (M.stored memory.new) ≡ hand_after_message tested.numbers (M.stored memory.old) payload.now }
 {
     let old = tested.numbers;
     let state = old.state();
@@ -66,6 +69,7 @@ fn hear<M: Memory>(memory: &mut M, at: Moment, payload: &[u8], out: &mut [u8]) -
     ensures phase { (M.stored memory.new).numbers.phase ≤ 7 }
     ensures form { (M.stored memory.new).numbers ≡ plain (M.stored memory.new).numbers }
     ensures loans { (M.stored memory.new).loans ≡ (M.stored memory.old).loans }
+    ensures hand { hand_in (M.stored memory.new).numbers (M.stored memory.new) ≡ hand_after_message (M.stored memory.old).numbers (M.stored memory.old) payload.now }
 {
     let tested = Tested::of(memory);
     let step = heard(memory, tested, at, payload);
@@ -100,6 +104,7 @@ pub(crate) fn message<M: Memory>(
     ensures loans { (M.stored memory.new).loans ≡ (M.stored memory.old).loans }
     ensures phase { OnOk result ((M.stored memory.new).numbers.phase ≤ 7) }
     ensures form { OnOk result ((M.stored memory.new).numbers ≡ pick (minded (M.stored memory.old).numbers payload.now) (plain (M.stored memory.new).numbers) (M.stored memory.old).numbers) }
+    ensures hand { OnOk result (hand_in (M.stored memory.new).numbers (M.stored memory.new) ≡ hand_after_message (M.stored memory.old).numbers (M.stored memory.old) payload.now) }
     ensures err { OnErr result (memory.new ≡ memory.old) }
 {
     sized(memory);

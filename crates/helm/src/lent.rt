@@ -7,6 +7,7 @@ ghost use Rattle.tx_list.specs.Reading as model;
 ghost use Rattle.tx_list.specs.Views.{pgns_at};
 ghost use Rattle.helm.specs.Stored.{array_of, capacity_of, parts_of, plain, with_array, with_numbers, with_parts};
 ghost use Rattle.helm.specs.Steps.{minded};
+ghost use Rattle.helm.specs.Hands.{hand_in, hand_after_message};
 ghost use Rattle.helm.specs.Arrays.{storing, first, owed_by};
 ghost use Rattle.helm.specs.Calls.{told, called};
 ghost use Rattle.helm.specs.Machines.{SameLoans, helm_limits, word, half, numbers_in, lent_plain, lent_stored};
@@ -256,6 +257,7 @@ impl Lent<'_> {
         ensures same { SameLoans self.new self.old }
         ensures phase { OnOk result ((lent_plain self.new).numbers.phase ≤ 7) }
         ensures form { OnOk result ((lent_plain self.new).numbers ≡ pick (minded (lent_plain self.old).numbers payload.now) (plain (lent_plain self.new).numbers) (lent_plain self.old).numbers) }
+        ensures hand { OnOk result (hand_in (lent_plain self.new).numbers (lent_plain self.new) ≡ hand_after_message (lent_plain self.old).numbers (lent_plain self.old) payload.now) }
         ensures err { OnErr result (self.new ≡ self.old) }
     {
         self.message(time, payload, out)

@@ -8,6 +8,7 @@ ghost use Rattle.session.specs.Sync.{kind, step_of};
 ghost use Rattle.session.specs.Lent.{minds_in};
 ghost use Rattle.helm.specs.Stored.{Stored, array_of, capacity_of, kind_of, session_at, session_of, ignores_on};
 ghost use Rattle.helm.specs.Steps.{Gets, told_step, asked_none, asked_some};
+ghost use Rattle.helm.specs.Hands.{hand_in};
 
 use crate::arrays::{note_present, owe, sized};
 use crate::memory::Memory;
@@ -106,6 +107,7 @@ fn ask<M: Memory>(memory: &M, known: Numbers, owed: usize, at: Moment) -> Step
     requires { owed ≤ capacity_of M.limits Which.Owed }
     ensures none { owed ≡ 0 → told_step result (M.stored memory.now) ≡ asked_none known at.ms (M.stored memory.now) }
     ensures some { 0 < owed → told_step result (M.stored memory.now) ≡ asked_some known owed at.ms (M.stored memory.now) }
+    ensures hand { hand_in result.numbers (M.stored memory.now) ≡ hand_in known (M.stored memory.now) }
 {
     if owed == 0 {
         return known.awaiting(None, State::Done, at);
@@ -128,6 +130,7 @@ pub(crate) fn got<M: Memory>(
     requires { count + 256 ≤ capacity_of M.limits Which.Known }
     ensures left { Gets M.limits tested.numbers count complete at.ms result (M.stored memory.old) (M.stored memory.new) }
     ensures loans { (M.stored memory.new).loans ≡ (M.stored memory.old).loans }
+    ensures hand { hand_in result.numbers (M.stored memory.new) ≡ hand_in tested.numbers (M.stored memory.old) }
 {
     sized(memory);
     let old = tested.numbers;
@@ -151,6 +154,7 @@ fn add<M: Memory>(memory: &mut M, old: Numbers, attempt: u32, at: Moment, payloa
     requires { old.list + length (list_pgns payload.now) ≤ capacity_of M.limits Which.List }
     ensures left { told_step result (M.stored memory.new) ≡ step_of (adds_to kind (session_at (State.Reading attempt) old (M.stored memory.old)) (list_pgns payload.now) at.ms) }
     ensures loans { (M.stored memory.new).loans ≡ (M.stored memory.old).loans }
+    ensures hand { hand_in result.numbers (M.stored memory.new) ≡ hand_in old (M.stored memory.old) }
 {
     let count = views::group_count(payload);
     memory.add_pgns(old.list as usize, payload, count);
@@ -163,6 +167,7 @@ fn add<M: Memory>(memory: &mut M, old: Numbers, attempt: u32, at: Moment, payloa
 fn end<M: Memory>(memory: &mut M, tested: Tested<M>, at: Moment) -> Step
     ensures left { (st : State) → told_step result (M.stored memory.new) ≡ step_of (gets kind (session_at st tested.numbers (M.stored memory.old)) (take tested.numbers.list (array_of Which.List (M.stored memory.old))) false at.ms) }
     ensures loans { (M.stored memory.new).loans ≡ (M.stored memory.old).loans }
+    ensures hand { hand_in result.numbers (M.stored memory.new) ≡ hand_in tested.numbers (M.stored memory.old) }
 {
     sized(memory);
     let count = tested.numbers.list as usize;
@@ -181,6 +186,7 @@ pub(crate) fn on_f1<M: Memory>(
     requires { ltb (capacity_of M.limits Which.List) (tested.numbers.list + length (added (f1_of payload.now))) ≡ false }
     ensures left { told_step result (M.stored memory.new) ≡ step_of (in_f1 kind (f1_of payload.now) (session_at (State.Reading attempt) tested.numbers (M.stored memory.old)) at.ms) }
     ensures loans { (M.stored memory.new).loans ≡ (M.stored memory.old).loans }
+    ensures hand { hand_in result.numbers (M.stored memory.new) ≡ hand_in tested.numbers (M.stored memory.old) }
 {
     match views::f1_kind(payload) {
         F1Kind::Adds => add(memory, tested.numbers, attempt, at, payload),

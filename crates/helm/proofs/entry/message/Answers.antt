@@ -11,6 +11,7 @@ use Rattle.helm.specs.declared.stored.Numbers.{Numbers}
 use Rattle.helm.specs.Stored.{kind_of, is_well_formed, session_in, session_of}
 use Rattle.helm.proofs.HeardLaws.{within}
 use Rattle.helm.proofs.CallLaws.{message_unformed, message_judged, message_quiet}
+use Rattle.helm.proofs.HandLaws.{hand_quiet}
 use Rattle.helm.proofs.entry.message.Goals as goal
 
 pub is_full-requires : goal.is_full-requires
@@ -120,3 +121,9 @@ returns-clause-left g c =
     c.hear.ensures.left
     ∙ (λ i. wrote_step (step_of (heard (kind_of l) (session_in s).state (session_in s) (a i) m)) o)
     ∙ message_judged l s g.met.M.Memory.limits_fit c.sized.ensures o c.args.time m (length o) taken e (message_taken c.args.time m (length o) (full_in (kind_of l) (session_in s).state (session_in s) m) h c.if-payload-gt-MESSAGE_LIMIT.false c.if-out-lt-OUTPUT_ROOM.false q)
+
+pub returns-then-not-minds-clause-hand : goal.returns-then-not-minds-clause-hand
+returns-then-not-minds-clause-hand g c =
+    let s = g.M.Memory.stored c.args.memory.now in
+    let m = c.args.payload.now in
+    hand_quiet s.numbers s m (sym (ap (λ (x : Numbers). minds_in (state_by x.phase x.attempt) m) c.numbers-numbers.ensures) ∙ sym c.minds.ensures ∙ c.if-not-minds.true)
