@@ -1,11 +1,11 @@
 // The answers to enable, commit and activate.
 // kept: a count has 32 bits in memory and is a usize in a slice: std has no `From` of u32 for usize, and `try_from` back would have a refusal that never comes.
-ghost use Rattle.std.specs.Prelude.{◌≡◌, ◌+◌, ◌<◌, ◌≤◌};
+ghost use Rattle.std.specs.Prelude.{◌≡◌, ◌+◌, ◌<◌, ◌≤◌, ◌&&◌, not, take};
 ghost use Rattle.numbers.specs.Layout.{state_of};
-ghost use Rattle.tx_list.specs.Views.{answer_of, good};
+ghost use Rattle.tx_list.specs.Views.{answer_of, good, has};
 ghost use Rattle.tx_list.specs.Moves.{marks, goes_on, asks_next, activated};
 ghost use Rattle.session.specs.Sync.{kind, step_of};
-ghost use Rattle.helm.specs.Stored.{capacity_of, session_at};
+ghost use Rattle.helm.specs.Stored.{array_of, capacity_of, session_at};
 ghost use Rattle.helm.specs.Steps.{told_step};
 ghost use Rattle.helm.specs.Hands.{hand_in};
 
@@ -18,6 +18,13 @@ use crate::tested::Tested;
 use commands::Command;
 use tx_list::State;
 use views::EnableResult;
+
+/// Whether a test passed and the list lacks the PGN. The list is looked through only where the test passed.
+fn absent<M: Memory>(memory: &M, which: Which, count: usize, yes: bool, pgn: u32) -> bool
+    ensures { result ≡ (yes && not (has pgn (take count (array_of which (M.stored memory.now))))) }
+{
+    yes && !pgns::has(memory.array(which), count, pgn)
+}
 
 /// The lists after an answer to the oldest PGN owed: a good one adds it to known, if a list is known and lacks it; already there: present;
 /// refused: refused; enabled now and not saved before: fresh.
@@ -34,9 +41,10 @@ fn mark<M: Memory>(memory: &mut M, old: Numbers, payload: &[u8]) -> Numbers
 {
     let said = views::enable_result(payload);
     let pgn = memory.array(Which::Owed)[0];
-    let lacked = !pgns::has(memory.array(Which::Known), old.known as usize, pgn);
-    let unsaved = !pgns::has(memory.array(Which::Saved), old.saved as usize, pgn);
-    let learned = (old.read != 0) & ((said != EnableResult::Refused) & lacked);
+    let learns = (old.read != 0) & (said != EnableResult::Refused);
+    let learned = absent(memory, Which::Known, old.known as usize, learns, pgn);
+    let now = said == EnableResult::Now;
+    let unsaved = absent(memory, Which::Saved, old.saved as usize, now, pgn);
     let known = push_if(memory, Which::Known, old.known as usize, learned, pgn);
     let present = push_if(
         memory,
@@ -52,13 +60,7 @@ fn mark<M: Memory>(memory: &mut M, old: Numbers, payload: &[u8]) -> Numbers
         said == EnableResult::Refused,
         pgn,
     );
-    let fresh = push_if(
-        memory,
-        Which::Fresh,
-        old.fresh as usize,
-        (said == EnableResult::Now) & unsaved,
-        pgn,
-    );
+    let fresh = push_if(memory, Which::Fresh, old.fresh as usize, unsaved, pgn);
     let mut numbers = old;
     numbers.known = known as u32;
     numbers.present = present as u32;
