@@ -10,7 +10,7 @@ ghost use Rattle.helm.specs.Steps.{told_step};
 ghost use Rattle.helm.specs.Hands.{hand_in};
 
 use crate::arrays::{push_if, sized};
-use crate::memory::Memory;
+use crate::memory::Arrays;
 use crate::moment::Moment;
 use crate::steps::Step;
 use crate::stored::{Numbers, Which};
@@ -20,7 +20,7 @@ use tx_list::State;
 use views::EnableResult;
 
 /// Whether a test passed and the list lacks the PGN. The list is looked through only where the test passed.
-fn absent<M: Memory>(memory: &M, which: Which, count: usize, yes: bool, pgn: u32) -> bool
+fn absent<M: Arrays>(memory: &M, which: Which, count: usize, yes: bool, pgn: u32) -> bool
     ensures { result ≡ (yes && not (has pgn (take count (array_of which (M.stored memory.now))))) }
 {
     yes && !pgns::has(memory.array(which), count, pgn)
@@ -28,7 +28,7 @@ fn absent<M: Memory>(memory: &M, which: Which, count: usize, yes: bool, pgn: u32
 
 /// The lists after an answer to the oldest PGN owed: a good one adds it to known, if a list is known and lacks it; already there: present;
 /// refused: refused; enabled now and not saved before: fresh.
-fn mark<M: Memory>(memory: &mut M, old: Numbers, payload: &[u8]) -> Numbers
+fn mark<M: Arrays>(memory: &mut M, old: Numbers, payload: &[u8]) -> Numbers
     requires known { old.known < capacity_of M.limits Which.Known }
     requires present { old.present < 256 }
     requires refused { old.refused < 256 }
@@ -85,7 +85,7 @@ impl Numbers {
 }
 
 /// The next PGN owed is asked for.
-fn ask_next<M: Memory>(memory: &mut M, old: Numbers, at: Moment) -> Step
+fn ask_next<M: Arrays>(memory: &mut M, old: Numbers, at: Moment) -> Step
     requires more { 1 < old.owed }
     requires within { old.owed ≤ capacity_of M.limits Which.Owed }
     ensures left { (st : State) → told_step result (M.stored memory.new) ≡ step_of (asks_next kind (session_at st old (M.stored memory.old)) at.ms) }
@@ -101,7 +101,7 @@ fn ask_next<M: Memory>(memory: &mut M, old: Numbers, at: Moment) -> Step
 }
 
 /// What comes after an answer: the next PGN owed; with none, commit where some are fresh, else done.
-fn go_on<M: Memory>(memory: &mut M, old: Numbers, at: Moment) -> Step
+fn go_on<M: Arrays>(memory: &mut M, old: Numbers, at: Moment) -> Step
     requires { old.owed ≤ capacity_of M.limits Which.Owed }
     ensures left { (st : State) → told_step result (M.stored memory.new) ≡ step_of (goes_on kind (session_at st old (M.stored memory.old)) at.ms) }
     ensures loans { (M.stored memory.new).loans ≡ (M.stored memory.old).loans }
@@ -117,7 +117,7 @@ fn go_on<M: Memory>(memory: &mut M, old: Numbers, at: Moment) -> Step
 }
 
 /// The answer to an enable command.
-pub(crate) fn on_answer<M: Memory>(
+pub(crate) fn on_answer<M: Arrays>(
     memory: &mut M,
     tested: Tested<M>,
     at: Moment,
@@ -133,7 +133,7 @@ pub(crate) fn on_answer<M: Memory>(
 }
 
 /// The fresh PGNs are saved.
-pub(crate) fn save<M: Memory>(memory: &mut M, tested: Tested<M>, at: Moment) -> Step
+pub(crate) fn save<M: Arrays>(memory: &mut M, tested: Tested<M>, at: Moment) -> Step
     ensures left { (st : State) → told_step result (M.stored memory.new) ≡ step_of (activated kind good (session_at st tested.numbers (M.stored memory.old)) at.ms) }
     ensures loans { (M.stored memory.new).loans ≡ (M.stored memory.old).loans }
     ensures hand { hand_in result.numbers (M.stored memory.new) ≡ hand_in tested.numbers (M.stored memory.old) }

@@ -10,7 +10,7 @@ ghost use Rattle.tx_list.specs.Reading as model;
 
 use crate::answers::{on_answer, save};
 use crate::arrays::sized;
-use crate::memory::Memory;
+use crate::memory::{Arrays, Memory};
 use crate::moment::Moment;
 use crate::parts::on_f2;
 use crate::reading::on_f1;
@@ -22,7 +22,7 @@ use tx_list::State;
 
 /// A step's numbers are stored, and its commands written; answers how many bytes. Inlined, so that a step stays in registers.
 #[inline(always)]
-fn finish<M: Memory>(memory: &mut M, step: Step, out: &mut [u8]) -> usize
+fn finish<M: Arrays>(memory: &mut M, step: Step, out: &mut [u8]) -> usize
     requires { 32 ≤ length out.old }
     ensures left { told (Ok result) (M.stored memory.new) out.new ≡ wrote_step (told_step step (M.stored memory.old)) out.old }
     ensures phase { (M.stored memory.new).numbers.phase ≤ 7 }
@@ -78,7 +78,7 @@ fn hear<M: Memory>(memory: &mut M, at: Moment, payload: &[u8], out: &mut [u8]) -
 
 /// The passing of time, test by test. A call of its own, so that no register is saved for a tick that does nothing.
 #[inline(never)]
-pub(crate) fn tick<M: Memory>(memory: &mut M, time: u64, out: &mut [u8]) -> Result<usize, Refusal>
+pub(crate) fn tick<M: Arrays>(memory: &mut M, time: u64, out: &mut [u8]) -> Result<usize, Refusal>
     ensures left { told result (M.stored memory.new) out.new ≡ called M.limits (M.stored memory.old) (model.tick time (length out.old)) out.old }
     ensures loans { (M.stored memory.new).loans ≡ (M.stored memory.old).loans }
     ensures phase { OnOk result ((M.stored memory.new).numbers.phase ≤ 7) }

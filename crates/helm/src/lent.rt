@@ -12,7 +12,7 @@ ghost use Rattle.helm.specs.Arrays.{storing, first, owed_by};
 ghost use Rattle.helm.specs.Calls.{told, called};
 ghost use Rattle.helm.specs.Machines.{SameLoans, helm_limits, word, half, numbers_in, lent_plain, lent_stored};
 
-use crate::memory::Memory;
+use crate::memory::{Arrays, Memory};
 use crate::sessions::Session;
 use crate::stored::{Numbers, Which};
 use crate::words::Refusal;
@@ -117,7 +117,7 @@ fn laid_out(x: Numbers) -> [u64; 17]
     ]
 }
 
-impl Memory for Lent<'_> {
+impl Arrays for Lent<'_> {
     ghost limits = { helm_limits };
 
     ghost stored = { lent_stored };
@@ -230,6 +230,10 @@ impl Memory for Lent<'_> {
         pgns::append(saved, at, fresh, count);
     }
 
+    ghost limits_fit = { Prim.search rules };
+}
+
+impl Memory for Lent<'_> {
     fn parts(&self) -> F2List
         ensures { result ≡ (lent_stored self.now).parts }
     {
@@ -244,8 +248,6 @@ impl Memory for Lent<'_> {
     {
         self.parts = Some(parts);
     }
-
-    ghost limits_fit = { Prim.search rules };
 }
 
 impl Session for Lent<'_> {}

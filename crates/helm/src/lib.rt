@@ -21,5 +21,5 @@ pub mod words;
 
 pub use lent::Lent;
 pub use machines::Helm;
-pub use memory::Memory;
+pub use memory::{Arrays, Memory};
 pub use sessions::Session;

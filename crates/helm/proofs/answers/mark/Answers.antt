@@ -7,7 +7,7 @@ use Rattle.helm.proofs.answers.mark.Goals as goal
 
 pub returns-clause-left : goal.returns-clause-left
 returns-clause-left g c = λ st.
-    let s = g.M.Memory.stored c.args.memory.now in
+    let s = g.M.Arrays.stored c.args.memory.now in
     let n = c.args.old in
     let m = c.args.payload.now in
     let p = get_or c.array.result.now 0 0 in
@@ -23,12 +23,12 @@ returns-clause-left g c = λ st.
     let present = c.push_if-present.ensures.count in
     let refused = c.push_if-refused.ensures.count in
     let fresh = c.push_if-fresh.ensures.count in
-    (λ i. session_at st (record n { known = known i; present = present i; refused = refused i; fresh = fresh i }) (g.M.Memory.stored c.push_if-fresh.new.memory))
+    (λ i. session_at st (record n { known = known i; present = present i; refused = refused i; fresh = fresh i }) (g.M.Arrays.stored c.push_if-fresh.new.memory))
     ∙ marked_by st n m s
-    (g.M.Memory.stored c.push_if-known.new.memory)
-    (g.M.Memory.stored c.push_if-present.new.memory)
-    (g.M.Memory.stored c.push_if-refused.new.memory)
-    (g.M.Memory.stored c.push_if-fresh.new.memory)
+    (g.M.Arrays.stored c.push_if-known.new.memory)
+    (g.M.Arrays.stored c.push_if-present.new.memory)
+    (g.M.Arrays.stored c.push_if-refused.new.memory)
+    (g.M.Arrays.stored c.push_if-fresh.new.memory)
     p
     (ap (λ (o : List ℕ). get_or o 0 0) c.array.ensures.array)
     learned

@@ -8,4 +8,4 @@ use Rattle.helm.proofs.entry.finish.Goals as goal
 pub returns-clause-hand : goal.returns-clause-hand
 returns-clause-hand g c =
     ap (λ (t : Stored). hand_in t.numbers t) c.set_numbers.ensures
-    ∙ hand_told c.left.result c.args.step.numbers (g.M.Memory.stored c.args.memory.now) (λ t. ap (λ (h : Sync). h.f2) (c.left.ensures.left t))
+    ∙ hand_told c.left.result c.args.step.numbers (g.M.Arrays.stored c.args.memory.now) (λ t. ap (λ (h : Sync). h.f2) (c.left.ensures.left t))

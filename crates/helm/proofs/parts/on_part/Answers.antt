@@ -16,7 +16,7 @@ use Rattle.helm.proofs.parts.on_part.Goals as goal
 
 pub read_list-requires-clause-formed : goal.read_list-requires-clause-formed
 read_list-requires-clause-formed g c =
-    let s = g.M.Memory.stored c.args.memory.now in
+    let s = g.M.Arrays.stored c.args.memory.now in
     let n = c.args.tested.numbers in
     let m = c.args.payload.now in
     ap formed (c.put_part.ensures ∙ ap (put m) (c.in_hand-parts.ensures ∙ ap (parts_of n) c.parts.ensures)) ∙ parts_formed n s.parts m c.args.tested.within.proprietary
@@ -29,7 +29,7 @@ got-requires g c = omega (arith, c.in-Some.ensures.whole.most, c.requires)
 
 pub keep-requires : goal.keep-requires
 keep-requires g c =
-    let s = g.M.Memory.stored c.args.memory.now in
+    let s = g.M.Arrays.stored c.args.memory.now in
     let n = c.args.tested.numbers in
     let m = c.args.payload.now in
     let pp = c.put_part.ensures ∙ ap (put m) (c.in_hand-parts.ensures ∙ ap (parts_of n) c.parts.ensures) in
@@ -38,8 +38,8 @@ keep-requires g c =
 pub returns-in-Some-clause-left : goal.returns-in-Some-clause-left
 unfolding in_whole
 returns-in-Some-clause-left g c =
-    let s = g.M.Memory.stored c.args.memory.now in
-    let u = g.M.Memory.stored c.store.new.self in
+    let s = g.M.Arrays.stored c.args.memory.now in
+    let u = g.M.Arrays.stored c.store.new.self in
     let n = c.args.tested.numbers in
     let m = c.args.payload.now in
     let t = c.args.at.ms in
@@ -58,7 +58,7 @@ returns-in-Some-clause-left g c =
 pub returns-in-None-clause-left : goal.returns-in-None-clause-left
 unfolding in_whole
 returns-in-None-clause-left g c =
-    let s = g.M.Memory.stored c.args.memory.now in
+    let s = g.M.Arrays.stored c.args.memory.now in
     let n = c.args.tested.numbers in
     let m = c.args.payload.now in
     let t = c.args.at.ms in
@@ -72,7 +72,7 @@ returns-in-None-clause-left g c =
 
 pub returns-in-Some-clause-hand : goal.returns-in-Some-clause-hand
 returns-in-Some-clause-hand g c =
-    let s = g.M.Memory.stored c.args.memory.now in
+    let s = g.M.Arrays.stored c.args.memory.now in
     let n = c.args.tested.numbers in
     let m = c.args.payload.now in
     let P = put m (parts_of n s.parts) in
@@ -83,7 +83,7 @@ returns-in-Some-clause-hand g c =
 
 pub returns-in-None-clause-hand : goal.returns-in-None-clause-hand
 returns-in-None-clause-hand g c =
-    let s = g.M.Memory.stored c.args.memory.now in
+    let s = g.M.Arrays.stored c.args.memory.now in
     let n = c.args.tested.numbers in
     let m = c.args.payload.now in
     let P = put m (parts_of n s.parts) in
