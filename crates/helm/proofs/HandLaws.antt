@@ -25,6 +25,16 @@ hand_told x y s h =
     (blank_told (as_lent x).totals (as_lent y).totals (λ f. h (record (stored_in x nowhere) { parts = f })))
 
 -- another phase than the reading of Format 2
+pub elsewhere : (st : State) → ((a : ℕ) → st ≡ ReadingF2 a → ⊥) → reads_f2 st ≡ false
+elsewhere AwaitStartup h = refl
+elsewhere ReadAt h = refl
+elsewhere (ReadingF2 a) h = absurd (h a refl)
+elsewhere (ReadingF1 a) h = refl
+elsewhere Enabling h = refl
+elsewhere Committing h = refl
+elsewhere Activating h = refl
+elsewhere Done h = refl
+
 pub hand_elsewhere : (n : Numbers) (s : Stored) (m : List ℕ) {p : State} → state_of n.phase n.attempt ≡ p → reads_f2 p ≡ false → hand_in n s ≡ hand_after_message n s m
 hand_elsewhere n s m e q = other (handed_in n s m) (hand_in n s) (ap reads_f2 e ∙ q)
 
