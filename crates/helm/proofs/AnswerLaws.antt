@@ -1,5 +1,5 @@
 -- Laws of the answers to enable, commit and activate.
-use Rattle.std.specs.Prelude.{ℕ, ◌≡◌, Bool, not, ◌&&◌, List, take, get_or}
+use Rattle.std.specs.Prelude.{ℕ, ◌≡◌, Bool, true, false, not, ◌&&◌, List, take, get_or}
 use Rattle.std.proofs.Common.{refl}
 use Rattle.numbers.specs.Layout.{is_set}
 use Rattle.session.specs.Sync.{kind}
@@ -40,6 +40,11 @@ unfolding is_fresh
 fresh_by Now p l = refl
 fresh_by Already p l = refl
 fresh_by Refused p l = refl
+
+-- three tests, the first two of them together
+pub and_three : (a b c : Bool) → ((a && b) && c) ≡ (a && (b && c))
+and_three true b c = refl
+and_three false b c = refl
 
 -- the lists after an answer, each pushed to where its test passed
 pub marked_by :

@@ -30,14 +30,23 @@ use Rattle.session.proofs.CallLaws.{unsound, judged, tick_taken, message_taken}
 use Rattle.std.proofs.lemmas.Bool.Decides.{nat_tests}
 use Rattle.helm.proofs.Calm.{calm_sound}
 use Rattle.helm.proofs.HeardLaws.{within, heard_same, heard_quiet, full_quiet}
+use Rattle.std.proofs.Math.Path.{subst}
+use Rattle.helm.specs.declared.moment.Moment.{Moment}
 use Rattle.helm.specs.declared.words.Refusal.TheVariants.{NotWellFormed}
 use Rattle.helm.specs.declared.stored.Numbers.{Numbers}
 use Rattle.helm.specs.Stored.{Stored, HasSizes, FitLimits, kind_of, session_in, counts_of, is_well_formed, is_calm, rests_on, ignores_on}
-use Rattle.helm.specs.Calls.{Holds, store_of, gave, begun, told, refused_phase, called, set_to, restarted, abandoned, is_session, state_of, says, lack_of, idle_at, ignored_at}
+use Rattle.helm.specs.Calls.{Holds, store_of, gave, begun, told, refused_phase, called, set_to, restarted, abandoned, is_session, state_of, says, lack_of, idle_at, ignored_at, Quiet, Judged}
 
 -- the test of a state, of memory that holds the numbers tested
 pub formed_by : {l : Limits} {n : Numbers} {s : Stored} {r b : Bool} → Holds l n s → (FitLimits l → r ≡ is_well_formed l n) → r ≡ b → is_well_formed l s.numbers ≡ b
 formed_by {l} z e q = ap (is_well_formed l) z.numbers ∙ sym (e z.fit) ∙ q
+
+-- a message that is found to be of no interest
+pub found_quiet : {l : Limits} {s : Stored} {t : ℕ} {m : List ℕ} {room : ℕ} {x : Option Moment} → Judged l s t m room (Ok x) → x ≡ None → Quiet l s t m room
+found_quiet {l} {s} {t} {m} {room} z e = subst (λ (x : Option Moment). Judged l s t m room (Ok x)) e z
+
+pub formed_low : (l : Limits) (n : Numbers) → is_well_formed l n ≡ true → n.phase ≤ 7
+formed_low l n e = leb-true n.phase 7 (left_true (leb n.phase 7) (sound_at l (counts_of n) (state_by n.phase n.attempt)) e)
 
 -- the phases, one by one
 pub each_phase : (P : ℕ → Type 0) → P 0 → P 1 → P 2 → P 3 → P 4 → P 5 → P 6 → P 7 → (p : ℕ) → p ≤ 7 → P p

@@ -5,6 +5,7 @@ pub mod AnswerLaws
 pub mod ReadLaws
 pub mod PartLaws
 pub mod HeardLaws
+pub mod HandLaws
 pub mod CallLaws
 pub mod BegunLaws
 pub mod RunLaws

@@ -1,5 +1,5 @@
 -- What each call of a session in memory answers and leaves. Assumes nothing.
-use Rattle.std.specs.Prelude.{ℕ, ◌≡◌, Bool, not, ◌&&◌, List, leb, ltb, length, Result, Ok, Err, Option, Some, None}
+use Rattle.std.specs.Prelude.{ℕ, ◌≤◌, ◌≡◌, Bool, true, false, not, ◌&&◌, List, leb, ltb, length, Result, Ok, Err, Option, Some, None}
 use Rattle.field.specs.Pick.{pick}
 use Rattle.field.specs.Written.{written}
 use Rattle.lists.specs.declared.F2List.{F2List}
@@ -7,21 +7,22 @@ use Rattle.lists.specs.Format2.{no_parts, formed}
 use Rattle.std.proofs.lemmas.List.Edits.{sets}
 use Rattle.bounds.specs.declared.Limits.{Limits}
 use Rattle.bounds.specs.Bounds.{old_fits}
-use Rattle.tx_list.specs.Reading.{Call, firmware}
+use Rattle.tx_list.specs.Reading.{Call, firmware, message}
 use Rattle.tx_list.specs.Session as model
 use Rattle.tx_list.specs.Session.{Session, all_le}
 use Rattle.tx_list.specs.Stored as stored
 use Rattle.tx_list.specs.Stored.{Store, CallAnswer, new, again, opens}
 use Rattle.tx_list.specs.Memory.{abs_flat, counts, store_by, clear_flat}
-use Rattle.session.specs.Sync.{Sync, same, frame_of, Told, Begun}
+use Rattle.session.specs.Sync.{Sync, same, frame_of, Told, Begun, wrote_step}
 use Rattle.helm.specs.declared.words.Refusal.{Refusal}
 use Rattle.helm.specs.declared.words.Refusal.TheVariants.{NotWellFormed}
 use Rattle.helm.specs.declared.words.Lack.{Lack}
+use Rattle.helm.specs.declared.moment.Moment.{Moment}
 use Rattle.helm.specs.Words.{refusal_number, told_lack}
 use Rattle.numbers.specs.Layout.{due_in}
 use Rattle.helm.specs.declared.calls.Ticked.{Ticked}
 use Rattle.helm.specs.declared.stored.Numbers.{Numbers}
-use Rattle.helm.specs.Steps.{minded}
+use Rattle.helm.specs.Steps.{minded, overfills, heard_by}
 use Rattle.helm.specs.Stored.{Stored, HasSizes, FitLimits, kind_of, session_in, session_of, counts_of, opened_with, is_well_formed}
 
 -- a session in arrays and counts, as a store of the model's (tx_list/specs/Stored), at a machine's limits
@@ -131,3 +132,24 @@ idle_at l n t room = is_well_formed l n && (leb t 18446744073709541615 && (leb 3
 -- a message is taken ("Session message 16, 13, 6, 7, 14") and does nothing
 abbrev pub ignored_at : Limits → Numbers → ℕ → List ℕ → ℕ → Bool
 ignored_at l n t m room = is_well_formed l n && (leb t 18446744073709541615 && (leb (length m) 255 && (leb 32 room && not (minded n m))))
+
+-- THE TESTS OF A MESSAGE, before any of its work is done
+
+-- it is of no interest: taken, and nothing changes
+pub record Quiet (l : Limits) (s : Stored) (t : ℕ) (m : List ℕ) (room : ℕ) : Type 0 where
+  pub formed : is_well_formed l s.numbers ≡ true
+  pub minds : minded s.numbers m ≡ false
+  pub call : (out : List ℕ) → told (Ok 0) s out ≡ called l s (message t m room) out
+
+-- it is taken, and does at this moment what the phase says
+pub record Hearable (l : Limits) (s : Stored) (t : ℕ) (m : List ℕ) (room : ℕ) (at : Moment) : Type 0 where
+  pub formed : is_well_formed l s.numbers ≡ true
+  pub minds : minded s.numbers m ≡ true
+  pub list : overfills l s.numbers s m ≡ false
+  pub fits : 32 ≤ room
+  pub call : (out : List ℕ) → wrote_step (heard_by l s.numbers s at.ms m) out ≡ called l s (message t m room) out
+
+abbrev pub Judged : Limits → Stored → ℕ → List ℕ → ℕ → Result (Option Moment) Refusal → Type 0
+Judged l s t m room (Err e) = (out : List ℕ) → told (Err e) s out ≡ called l s (message t m room) out
+Judged l s t m room (Ok None) = Quiet l s t m room
+Judged l s t m room (Ok (Some at)) = Hearable l s t m room at

@@ -3,6 +3,7 @@ pub mod Words
 pub mod Stored
 pub mod Arrays
 pub mod Steps
+pub mod Hands
 pub mod Calls
 pub mod Machines
 pub mod PlayedLaws

@@ -8,6 +8,7 @@ use Rattle.bounds.specs.declared.Limits.{Limits}
 use Rattle.helm.specs.declared.stored.Numbers.{Numbers}
 use Rattle.helm.specs.declared.machines.Helm.{Helm}
 use Rattle.helm.specs.declared.lent.Lent.{Lent}
+use Rattle.helm.specs.declared.lent_arrays.LentArrays.{LentArrays}
 use Rattle.session.specs.Sync.{Begun, clear}
 use Rattle.helm.specs.declared.words.Refusal.{Refusal}
 use Rattle.helm.specs.Words.{refusal_number}
@@ -142,6 +143,25 @@ lent_plain m =
 
 abbrev pub lent_stored : Lent → Stored
 lent_stored m = record (lent_plain m) { loans = loans_of m }
+
+-- the same references, with no parts
+abbrev pub partless : LentArrays → Lent
+partless m =
+    record {
+      numbers = m.numbers;
+      wanted = m.wanted;
+      owed = m.owed;
+      fresh = m.fresh;
+      list = m.list;
+      known = m.known;
+      saved = m.saved;
+      present = m.present;
+      refused = m.refused;
+      parts = None;
+    }
+
+abbrev pub lent_arrays_stored : LentArrays → Stored
+lent_arrays_stored m = lent_stored (partless m)
 
 -- one holds the references of the other, each in its place: what the one ends with, the lender finds
 pub record SameLoans (a b : Lent) : Type 0 where

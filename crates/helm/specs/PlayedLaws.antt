@@ -9,6 +9,7 @@ use Rattle.field.specs.Pick.{pick}
 use Rattle.numbers.specs.Layout.{is_set, one, state_of, phase_of, attempt_of}
 use Rattle.tx_list.specs.Reading.{Call, message, tick, firmware}
 use Rattle.lists.specs.declared.F2List.{F2List}
+use Rattle.lists.specs.Format2.{no_parts}
 use Rattle.tx_list.specs.Session as model
 use Rattle.tx_list.specs.Session.{Session, Record, begin_by, begins, all_le, old_bounds, Lacks, silent, from_whole, from_part}
 use Rattle.tx_list.specs.Memory.{Sized, abs_flat}
@@ -18,8 +19,8 @@ use Rattle.session.specs.Sync as one_session
 use Rattle.tx_list.specs.Stored.{opens, answer}
 use Rattle.tx_list.specs.Session.{begin}
 use Rattle.tx_list.specs.Live.{Gateway, Helpful, Mixed, start_up_run}
-use Rattle.session.specs.Sync.{Sync, Begun, IsDone, kind, store, clear, begun, begun_with, record_of, learned_in}
-use Rattle.session.specs.Lent.{Fits, begun_in}
+use Rattle.session.specs.Sync.{Sync, Begun, Told, IsDone, kind, store, clear, begun, begun_with, record_of, learned_in}
+use Rattle.session.specs.Lent.{Fits, begun_in, counted, Hand}
 use Rattle.session.specs.LentLaws.{sized}
 use Rattle.session.specs.LentPlayed.{InLentMemory}
 use Rattle.session.specs.Played.{Played, Holds, held_by, message', tick', firmware'}
@@ -30,11 +31,15 @@ use Rattle.helm.specs.declared.words.Lack.TheVariants.{FromWhole, FromPart}
 use Rattle.helm.specs.declared.machines.Helm.{Helm}
 use Rattle.helm.specs.declared.lent.Lent.{Lent}
 use Rattle.helm.specs.Words.{refusal_number}
-use Rattle.helm.specs.Stored.{Stored, HasSizes, session_in}
+use Rattle.helm.specs.declared.stored.Numbers.{Numbers}
+use Rattle.helm.specs.Stored.{Stored, HasSizes, session_in, plain}
+use Rattle.helm.specs.Steps.{minded}
+use Rattle.helm.specs.Hands.{hand_in, hand_after_message}
 use Rattle.helm.specs.Calls as contracts
 use Rattle.helm.specs.Calls.{told, told_done, called, set_to, restarted, abandoned, Said, says, refuses, told_lacks}
 use Rattle.helm.specs.Machines.{SameLoans, helm_limits, helm_stored, lent_stored, told_begun}
 use Rattle.helm.specs.Linked.{as_lent, arrays_in}
+use Rattle.bounds.specs.declared.Limits.{Limits}
 
 -- how many bytes a call wrote
 abbrev pub count_in : Result ℕ Refusal → ℕ
@@ -264,6 +269,96 @@ phase_to h = phase_small h.state
 -- a machine that holds a session in this way is read and put back unchanged
 pub to_of : (h : Sync) → helm_of (session_in (helm_stored (helm_of h))) ≡ helm_of h
 to_of h = ap helm_of (of_to h)
+
+-- nothing of a machine is left open by its session, where the parts in memory are in hand and its numbers are in the one form in which a call
+-- stores them
+pub whole_to_of : (m : Helm) → m.numbers ≡ plain m.numbers → m.numbers.blank ≡ 0 → m.numbers.proprietary ≡ m.parts.proprietary.list.n
+    → helm_of (session_in (helm_stored m)) ≡ m
+whole_to_of m e b p =
+    λ i.
+    record m {
+      numbers = record (sym e i) { blank = sym b i };
+      parts = counted (p i) (pick (is_set (b i)) no_parts m.parts);
+    }
+
+-- a machine that holds a session, with these parts in memory
+abbrev pub helm_with : Sync → Hand → Helm
+helm_with h k = record (helm_of h) { numbers = record (helm_of h).numbers { blank = one k.blank }; parts = k.parts }
+
+-- whether the parts in memory are in hand or not, nothing is left open by them and the session
+pub hand_to_of : (m : Helm) → m.numbers ≡ plain m.numbers → helm_with (session_in (helm_stored m)) (hand_in m.numbers (helm_stored m)) ≡ m
+hand_to_of m e = λ i. record m { numbers = sym e i }
+
+-- the same of numbers in that form, in any memory
+numbers_fixed : (s t : Stored) → session_in s ≡ session_in t → hand_in s.numbers s ≡ hand_in t.numbers t → plain s.numbers ≡ plain t.numbers
+numbers_fixed s t e h =
+    λ i.
+    record {
+      phase = phase_of (e i).state;
+      attempt = attempt_of (e i).state;
+      due = (e i).deadline;
+      wanted = (e i).wanted.n;
+      owed = (e i).owed.n;
+      fresh = (e i).fresh.n;
+      list = (e i).list.n;
+      proprietary = (e i).f2.proprietary.list.n;
+      known = (e i).known.n;
+      saved = (e i).saved.n;
+      present = (e i).present.n;
+      refused = (e i).refused.n;
+      read = one (e i).is_known;
+      complete = one (e i).complete;
+      told = one (e i).told;
+      version = (e i).version;
+      blank = one (h i).blank;
+    }
+
+-- A MESSAGE FIXES ALL OF MEMORY: two memories that a taken message may leave of the same one are the same, numbers, arrays and parts
+module _ (l : Limits) (s : Stored) (time : ℕ) (payload out : List ℕ) where
+  -- what the contract of a message says of the memory that it leaves
+  pub record Left (count : ℕ) (left : List ℕ) (t : Stored) : Type 0 where
+    pub session : told (Ok count) t left ≡ called l s (message time payload (length out)) out
+    pub loans : t.loans ≡ s.loans
+    pub form : t.numbers ≡ pick (minded s.numbers payload) (plain t.numbers) s.numbers
+    pub hand : hand_in t.numbers t ≡ hand_after_message s.numbers s payload
+
+  pub message_fixes : (j k : ℕ) (x y : List ℕ) (t u : Stored) → Left j x t → Left k y u → t ≡ u
+  message_fixes j k x y t u a b =
+      let e : session_in t ≡ session_in u = ap (λ (v : Told). v.sync) (a.session ∙ sym b.session) in
+      let h : hand_in t.numbers t ≡ hand_in u.numbers u = a.hand ∙ sym b.hand in
+      let n : t.numbers ≡ u.numbers =
+      a.form ∙ ap (λ (z : Numbers). pick (minded s.numbers payload) z s.numbers) (numbers_fixed t u e h) ∙ sym b.form in
+      λ i.
+      record {
+        numbers = n i;
+        wanted = (e i).wanted.items;
+        owed = (e i).owed.items;
+        fresh = (e i).fresh.items;
+        list = (e i).list.items;
+        known = (e i).known.items;
+        saved = (e i).saved.items;
+        present = (e i).present.items;
+        refused = (e i).refused.items;
+        parts = (h i).parts;
+        loans = (a.loans ∙ sym b.loans) i;
+      }
+
+-- so of two helms
+pub helm_fixes : (m n : Helm) → helm_stored m ≡ helm_stored n → m ≡ n
+helm_fixes m n e =
+    λ i.
+    record {
+      numbers = (e i).numbers;
+      wanted = (e i).wanted;
+      owed = (e i).owed;
+      fresh = (e i).fresh;
+      list = (e i).list;
+      known = (e i).known;
+      saved = (e i).saved;
+      present = (e i).present;
+      refused = (e i).refused;
+      parts = (e i).parts;
+    }
 
 -- a phase over 7 is taken as done; so one that is not done is one of the eight
 past_done : (p a : ℕ) → 7 < p → state_of p a ≡ Done

@@ -4,12 +4,12 @@ ghost use Rattle.tx_list.specs.Changed.{push_if};
 ghost use Rattle.helm.specs.Stored.{HasSizes, buffer_of, capacity_of, with_array};
 ghost use Rattle.helm.specs.Arrays.{storing, known_with, owed_by};
 
-use crate::memory::Memory;
+use crate::memory::Arrays;
 use crate::stored::Which;
 
 /// Each array is as long as the limits say.
 #[inline(always)]
-pub(crate) fn sized<M: Memory>(memory: &M)
+pub(crate) fn sized<M: Arrays>(memory: &M)
     ensures { HasSizes M.limits (M.stored memory.now) }
 {
     memory.array(Which::Wanted);
@@ -23,7 +23,7 @@ pub(crate) fn sized<M: Memory>(memory: &M)
 }
 
 /// The PGN behind the last one of a list, where a test passed; answers how many the list has now.
-pub(crate) fn push_if<M: Memory>(
+pub(crate) fn push_if<M: Arrays>(
     memory: &mut M,
     which: Which,
     count: usize,
@@ -44,7 +44,7 @@ pub(crate) fn push_if<M: Memory>(
 }
 
 /// Each present PGN noted in the known list.
-pub(crate) fn note_present<M: Memory>(memory: &mut M, count: usize, present: usize) -> usize
+pub(crate) fn note_present<M: Arrays>(memory: &mut M, count: usize, present: usize) -> usize
     requires room { count + present ≤ capacity_of M.limits Which.Known }
     requires within { present ≤ 256 }
     ensures most { result ≤ capacity_of M.limits Which.Known }
@@ -56,7 +56,7 @@ pub(crate) fn note_present<M: Memory>(memory: &mut M, count: usize, present: usi
 }
 
 /// The PGNs owed: the first of wanted that are not among the first of known, of present and of refused; answers how many.
-pub(crate) fn owe<M: Memory>(
+pub(crate) fn owe<M: Arrays>(
     memory: &mut M,
     wanted: usize,
     list: usize,

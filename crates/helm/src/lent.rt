@@ -7,11 +7,12 @@ ghost use Rattle.tx_list.specs.Reading as model;
 ghost use Rattle.tx_list.specs.Views.{pgns_at};
 ghost use Rattle.helm.specs.Stored.{array_of, capacity_of, parts_of, plain, with_array, with_numbers, with_parts};
 ghost use Rattle.helm.specs.Steps.{minded};
+ghost use Rattle.helm.specs.Hands.{hand_in, hand_after_message};
 ghost use Rattle.helm.specs.Arrays.{storing, first, owed_by};
 ghost use Rattle.helm.specs.Calls.{told, called};
 ghost use Rattle.helm.specs.Machines.{SameLoans, helm_limits, word, half, numbers_in, lent_plain, lent_stored};
 
-use crate::memory::Memory;
+use crate::memory::{Arrays, Memory};
 use crate::sessions::Session;
 use crate::stored::{Numbers, Which};
 use crate::words::Refusal;
@@ -92,7 +93,7 @@ impl Numbers {
 }
 
 /// The 17 numbers that tell these.
-fn laid_out(x: Numbers) -> [u64; 17]
+pub(crate) fn laid_out(x: Numbers) -> [u64; 17]
     ensures { numbers_in result ≡ x }
 {
     [
@@ -116,7 +117,7 @@ fn laid_out(x: Numbers) -> [u64; 17]
     ]
 }
 
-impl Memory for Lent<'_> {
+impl Arrays for Lent<'_> {
     ghost limits = { helm_limits };
 
     ghost stored = { lent_stored };
@@ -229,6 +230,10 @@ impl Memory for Lent<'_> {
         pgns::append(saved, at, fresh, count);
     }
 
+    ghost limits_fit = { Prim.search rules };
+}
+
+impl Memory for Lent<'_> {
     fn parts(&self) -> F2List
         ensures { result ≡ (lent_stored self.now).parts }
     {
@@ -243,8 +248,6 @@ impl Memory for Lent<'_> {
     {
         self.parts = Some(parts);
     }
-
-    ghost limits_fit = { Prim.search rules };
 }
 
 impl Session for Lent<'_> {}
@@ -256,6 +259,7 @@ impl Lent<'_> {
         ensures same { SameLoans self.new self.old }
         ensures phase { OnOk result ((lent_plain self.new).numbers.phase ≤ 7) }
         ensures form { OnOk result ((lent_plain self.new).numbers ≡ pick (minded (lent_plain self.old).numbers payload.now) (plain (lent_plain self.new).numbers) (lent_plain self.old).numbers) }
+        ensures hand { OnOk result (hand_in (lent_plain self.new).numbers (lent_plain self.new) ≡ hand_after_message (lent_plain self.old).numbers (lent_plain self.old) payload.now) }
         ensures err { OnErr result (self.new ≡ self.old) }
     {
         self.message(time, payload, out)

@@ -7,6 +7,7 @@ pub mod calls;
 mod entry;
 pub mod laws;
 mod lent;
+mod lent_arrays;
 mod machines;
 pub mod memory;
 pub mod moment;
@@ -20,6 +21,7 @@ mod ticks;
 pub mod words;
 
 pub use lent::Lent;
+pub use lent_arrays::LentArrays;
 pub use machines::Helm;
-pub use memory::Memory;
+pub use memory::{Arrays, Memory};
 pub use sessions::Session;

@@ -4,7 +4,7 @@ ghost use Rattle.std.specs.Prelude.{◌≡◌};
 ghost use Rattle.session.specs.Sync.{begun_with};
 ghost use Rattle.helm.specs.Machines.{helm_blank, helm_limits, helm_stored, told_begun};
 
-use crate::memory::Memory;
+use crate::memory::{Arrays, Memory};
 use crate::sessions::Session;
 use crate::stored::{Numbers, Which};
 use crate::words::Refusal;
@@ -82,7 +82,7 @@ impl Helm {
 }
 
 // kept: no plainer: of the two machines one has its arrays and the other refers to them; each function is a line over crate `pgns` in both.
-impl Memory for Helm {
+impl Arrays for Helm {
     ghost limits = { helm_limits };
 
     ghost stored = { helm_stored };
@@ -165,6 +165,10 @@ impl Memory for Helm {
         pgns::append(&mut self.saved, at, &self.fresh, count);
     }
 
+    ghost limits_fit = { Prim.search rules };
+}
+
+impl Memory for Helm {
     fn parts(&self) -> F2List {
         self.parts
     }
@@ -172,8 +176,6 @@ impl Memory for Helm {
     fn set_parts(&mut self, parts: F2List) {
         self.parts = parts;
     }
-
-    ghost limits_fit = { Prim.search rules };
 }
 
 impl Session for Helm {}

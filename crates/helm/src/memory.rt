@@ -9,8 +9,8 @@ use crate::stored::{Numbers, Which};
 use bounds::Limits;
 use lists::F2List;
 
-/// A session in memory that its owner keeps: its numbers, an array for each list, and the parts of a Format 2 read.
-pub trait Memory {
+/// A session in memory that its owner keeps: its numbers, and an array for each list.
+pub trait Arrays {
     ghost limits: { Bounds };
 
     /// Any numbers, whatever the arrays hold.
@@ -64,11 +64,14 @@ pub trait Memory {
     fn save_fresh(&mut self, at: usize, count: usize)
         ensures { stored self.new ≡ storing (stored self.old) Which.Saved at (first Which.Fresh count (stored self.old)) };
 
+    ghost limits_fit: { FitLimits limits };
+}
+
+/// The same with the parts of a Format 2 read.
+pub trait Memory: Arrays {
     fn parts(&self) -> F2List
-        ensures { result ≡ (stored self.now).parts };
+        ensures { result ≡ (Self.stored self.now).parts };
 
     fn set_parts(&mut self, parts: F2List)
-        ensures { stored self.new ≡ with_parts (stored self.old) parts };
-
-    ghost limits_fit: { FitLimits limits };
+        ensures { Self.stored self.new ≡ with_parts (Self.stored self.old) parts };
 }

@@ -1,13 +1,15 @@
 // A message while Format 2 is read: a part of its lists, or an error, which leads to Format 1.
 // kept: a count has 32 bits in memory and is a usize in a slice: std has no `From` of u32 for usize, and `try_from` back would have a refusal that never comes.
-ghost use Rattle.std.specs.Prelude.{◌≡◌, ◌≤◌, IfSome, IsNone, true, length};
+ghost use Rattle.std.specs.Prelude.{◌≡◌, ◌≤◌, IfSome, IsNone, true, false, length};
 ghost use Rattle.std.proofs.Math.Option.{none};
 ghost use Rattle.lists.specs.Format2.{formed, pgns_of};
 ghost use Rattle.tx_list.specs.Views.{f2_of};
 ghost use Rattle.tx_list.specs.Moves.{puts, in_f2, in_whole};
 ghost use Rattle.session.specs.Sync.{kind, put, step_of};
+ghost use Rattle.session.specs.Lent.{hand_by};
 ghost use Rattle.helm.specs.Stored.{capacity_of, parts_of, session_at};
 ghost use Rattle.helm.specs.Steps.{Listed, told_step};
+ghost use Rattle.helm.specs.Hands.{hand_in, handed_in};
 
 use crate::arrays::sized;
 use crate::memory::Memory;
@@ -56,6 +58,7 @@ fn keep<M: Memory>(memory: &mut M, old: Numbers, attempt: u32, parts: F2List, at
     requires { parts.proprietary.list.n ≤ 512 }
     ensures left { told_step result (M.stored memory.new) ≡ step_of (puts kind (session_at (State.ReadingF2 attempt) old (M.stored memory.old)) parts at.ms) }
     ensures loans { (M.stored memory.new).loans ≡ (M.stored memory.old).loans }
+    ensures hand { hand_in result.numbers (M.stored memory.new) ≡ record { parts = parts; blank = false } }
 {
     memory.set_parts(parts);
     let mut numbers = old;
@@ -90,6 +93,7 @@ fn on_part<M: Memory>(
     requires { 1023 ≤ capacity_of M.limits Which.Known }
     ensures left { told_step result (M.stored memory.new) ≡ step_of (in_whole kind (pgns_of (put payload.now (parts_of tested.numbers (M.stored memory.old).parts))) (session_at (State.ReadingF2 attempt) tested.numbers (M.stored memory.old)) (put payload.now (parts_of tested.numbers (M.stored memory.old).parts)) at.ms) }
     ensures loans { (M.stored memory.new).loans ≡ (M.stored memory.old).loans }
+    ensures hand { hand_in result.numbers (M.stored memory.new) ≡ hand_by (pgns_of (put payload.now (parts_of tested.numbers (M.stored memory.old).parts))) (put payload.now (parts_of tested.numbers (M.stored memory.old).parts)) (hand_in tested.numbers (M.stored memory.old)) }
 {
     sized(memory);
     let old = tested.numbers;
@@ -116,6 +120,7 @@ pub(crate) fn on_f2<M: Memory>(
     requires { 1023 ≤ capacity_of M.limits Which.Known }
     ensures left { told_step result (M.stored memory.new) ≡ step_of (in_f2 kind (f2_of payload.now) (session_at (State.ReadingF2 attempt) tested.numbers (M.stored memory.old)) at.ms payload.now) }
     ensures loans { (M.stored memory.new).loans ≡ (M.stored memory.old).loans }
+    ensures hand { hand_in result.numbers (M.stored memory.new) ≡ handed_in tested.numbers (M.stored memory.old) payload.now }
 {
     match views::f2_kind(payload) {
         F2Kind::Wrong => tested.numbers.start_f1(1, at),

@@ -8,9 +8,10 @@ ghost use Rattle.session.specs.Sync.{kind, step_of};
 ghost use Rattle.session.specs.Lent.{minds_in};
 ghost use Rattle.helm.specs.Stored.{Stored, array_of, capacity_of, kind_of, session_at, session_of, ignores_on};
 ghost use Rattle.helm.specs.Steps.{Gets, told_step, asked_none, asked_some};
+ghost use Rattle.helm.specs.Hands.{hand_in};
 
 use crate::arrays::{note_present, owe, sized};
-use crate::memory::Memory;
+use crate::memory::Arrays;
 use crate::moment::Moment;
 use crate::steps::Step;
 use crate::stored::{Numbers, Which};
@@ -102,10 +103,11 @@ impl Numbers {
 }
 
 /// What is owed is asked for, oldest first; with nothing owed the session is done.
-fn ask<M: Memory>(memory: &M, known: Numbers, owed: usize, at: Moment) -> Step
+fn ask<M: Arrays>(memory: &M, known: Numbers, owed: usize, at: Moment) -> Step
     requires { owed ≤ capacity_of M.limits Which.Owed }
     ensures none { owed ≡ 0 → told_step result (M.stored memory.now) ≡ asked_none known at.ms (M.stored memory.now) }
     ensures some { 0 < owed → told_step result (M.stored memory.now) ≡ asked_some known owed at.ms (M.stored memory.now) }
+    ensures hand { hand_in result.numbers (M.stored memory.now) ≡ hand_in known (M.stored memory.now) }
 {
     if owed == 0 {
         return known.awaiting(None, State::Done, at);
@@ -118,7 +120,7 @@ fn ask<M: Memory>(memory: &M, known: Numbers, owed: usize, at: Moment) -> Step
 }
 
 /// A list of so many PGNs stands at the front of the known one: it is known, with the present ones, and what is owed is asked for.
-pub(crate) fn got<M: Memory>(
+pub(crate) fn got<M: Arrays>(
     memory: &mut M,
     tested: Tested<M>,
     count: usize,
@@ -128,6 +130,7 @@ pub(crate) fn got<M: Memory>(
     requires { count + 256 ≤ capacity_of M.limits Which.Known }
     ensures left { Gets M.limits tested.numbers count complete at.ms result (M.stored memory.old) (M.stored memory.new) }
     ensures loans { (M.stored memory.new).loans ≡ (M.stored memory.old).loans }
+    ensures hand { hand_in result.numbers (M.stored memory.new) ≡ hand_in tested.numbers (M.stored memory.old) }
 {
     sized(memory);
     let old = tested.numbers;
@@ -147,10 +150,11 @@ pub(crate) fn got<M: Memory>(
 }
 
 /// PGNs more of a list in Format 1.
-fn add<M: Memory>(memory: &mut M, old: Numbers, attempt: u32, at: Moment, payload: &[u8]) -> Step
+fn add<M: Arrays>(memory: &mut M, old: Numbers, attempt: u32, at: Moment, payload: &[u8]) -> Step
     requires { old.list + length (list_pgns payload.now) ≤ capacity_of M.limits Which.List }
     ensures left { told_step result (M.stored memory.new) ≡ step_of (adds_to kind (session_at (State.Reading attempt) old (M.stored memory.old)) (list_pgns payload.now) at.ms) }
     ensures loans { (M.stored memory.new).loans ≡ (M.stored memory.old).loans }
+    ensures hand { hand_in result.numbers (M.stored memory.new) ≡ hand_in old (M.stored memory.old) }
 {
     let count = views::group_count(payload);
     memory.add_pgns(old.list as usize, payload, count);
@@ -160,9 +164,10 @@ fn add<M: Memory>(memory: &mut M, old: Numbers, attempt: u32, at: Moment, payloa
 }
 
 /// The list in Format 1 has ended.
-fn end<M: Memory>(memory: &mut M, tested: Tested<M>, at: Moment) -> Step
+fn end<M: Arrays>(memory: &mut M, tested: Tested<M>, at: Moment) -> Step
     ensures left { (st : State) → told_step result (M.stored memory.new) ≡ step_of (gets kind (session_at st tested.numbers (M.stored memory.old)) (take tested.numbers.list (array_of Which.List (M.stored memory.old))) false at.ms) }
     ensures loans { (M.stored memory.new).loans ≡ (M.stored memory.old).loans }
+    ensures hand { hand_in result.numbers (M.stored memory.new) ≡ hand_in tested.numbers (M.stored memory.old) }
 {
     sized(memory);
     let count = tested.numbers.list as usize;
@@ -171,7 +176,7 @@ fn end<M: Memory>(memory: &mut M, tested: Tested<M>, at: Moment) -> Step
 }
 
 /// A message while Format 1 is read.
-pub(crate) fn on_f1<M: Memory>(
+pub(crate) fn on_f1<M: Arrays>(
     memory: &mut M,
     tested: Tested<M>,
     attempt: u32,
@@ -181,6 +186,7 @@ pub(crate) fn on_f1<M: Memory>(
     requires { ltb (capacity_of M.limits Which.List) (tested.numbers.list + length (added (f1_of payload.now))) ≡ false }
     ensures left { told_step result (M.stored memory.new) ≡ step_of (in_f1 kind (f1_of payload.now) (session_at (State.Reading attempt) tested.numbers (M.stored memory.old)) at.ms) }
     ensures loans { (M.stored memory.new).loans ≡ (M.stored memory.old).loans }
+    ensures hand { hand_in result.numbers (M.stored memory.new) ≡ hand_in tested.numbers (M.stored memory.old) }
 {
     match views::f1_kind(payload) {
         F1Kind::Adds => add(memory, tested.numbers, attempt, at, payload),

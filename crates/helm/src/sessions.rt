@@ -3,6 +3,7 @@ ghost use Rattle.tx_list.specs.Reading as model;
 ghost use Rattle.field.specs.Pick.{pick};
 ghost use Rattle.helm.specs.Stored.{pgns_in, plain, rests_on};
 ghost use Rattle.helm.specs.Steps.{minded};
+ghost use Rattle.helm.specs.Hands.{hand_in, hand_after_message};
 ghost use Rattle.helm.specs.Calls.{told, told_done, begun_with, called, set_to, restarted, abandoned, state_of, done_of, told_lacks, lack_of, idle_at, ignored_at};
 
 use crate::arrays::sized;
@@ -143,6 +144,7 @@ pub trait Session: Memory {
         ensures loans { (Self.stored self.new).loans ≡ (Self.stored self.old).loans }
         ensures phase { OnOk result ((Self.stored self.new).numbers.phase ≤ 7) }
         ensures form { OnOk result ((Self.stored self.new).numbers ≡ pick (minded (Self.stored self.old).numbers payload.now) (plain (Self.stored self.new).numbers) (Self.stored self.old).numbers) }
+        ensures hand { OnOk result (hand_in (Self.stored self.new).numbers (Self.stored self.new) ≡ hand_after_message (Self.stored self.old).numbers (Self.stored self.old) payload.now) }
         ensures err { OnErr result (self.new ≡ self.old) }
     {
         sized(self);

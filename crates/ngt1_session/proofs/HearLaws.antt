@@ -1,6 +1,7 @@
 -- Laws of `ngt1_session_message` and `ngt1_session_part`: a message over blank memory in the place of what is not lent. Assumes nothing.
-use Rattle.std.specs.Prelude.{ℕ, zero, suc, ◌%◌, ◌≤◌, ◌≡◌, refl, Bool, true, false, List, [], length, get_or, replicate, Result, Ok, Err}
+use Rattle.std.specs.Prelude.{ℕ, zero, suc, ◌%◌, ◌≤◌, ◌≡◌, refl, Bool, true, false, List, [], length, eqb, get_or, replicate, Result, Ok, Err, OnErr}
 use Rattle.std.proofs.Common.{arith, sym, ap, ◌∙◌, le-ltb}
+use Rattle.std.proofs.Math.Path.{subst}
 use Rattle.lists.specs.declared.F2List.{F2List}
 use Rattle.numbers.specs.Layout.{is_set, state_of}
 use Rattle.tx_list.specs.Reading.{message}
@@ -12,6 +13,7 @@ use Rattle.session.specs.LentLaws.{chosen, other}
 use Rattle.session.proofs.FrameLaws.{with_blank, parted, beside, told_anyway, fits_any, over, told_beside, keeps, hands_kept, hands_back, held_back}
 use Rattle.helm.specs.declared.stored.Numbers.{Numbers as HelmNumbers}
 use Rattle.helm.specs.declared.words.Refusal.{Refusal}
+use Rattle.helm.specs.declared.words.Refusal.TheVariants.{NotWellFormed, TimeOverLimit, MessageTooLong, NoRoom, ListFull, TooManyWanted, RecordTooLong}
 use Rattle.helm.specs.Words.{refusal_number}
 use Rattle.helm.specs.Calls as helm
 use Rattle.helm.specs.Machines.{helm_limits, lent_plain}
@@ -22,7 +24,7 @@ use Rattle.helm.specs.Stored.{Stored}
 use Rattle.helm.proofs.LinkLaws.{set_half, message_lent}
 use Rattle.ngt1_session.specs.declared.Answer.{Answer}
 use Rattle.ngt1_session.specs.declared.PartAnswer.{PartAnswer}
-use Rattle.ngt1_session.specs.Session.{numbers_in, told_on, told_part_on, answers, hears, hears_part}
+use Rattle.ngt1_session.specs.Session.{numbers_in, numbers_as, leaves, answer_by, told_on, told_part_on, answers, hears, hears_part}
 
 -- the phase that the numbers tell
 reads_law : (p a : ℕ) → p ≤ 7 → (p ≡ 3 → ⊥) → reads_f2 (state_of p a) ≡ false
@@ -35,6 +37,10 @@ reads_law (suc (suc (suc (suc (suc zero))))) a h z = refl
 reads_law (suc (suc (suc (suc (suc (suc zero)))))) a h z = refl
 reads_law (suc (suc (suc (suc (suc (suc (suc zero))))))) a h z = refl
 reads_law (suc (suc (suc (suc (suc (suc (suc (suc p)))))))) a h z = absurd (omega arith)
+
+-- the phase that helm reads
+pub phase_read : (n : List ℕ) → get_or n 0 0 ≤ 7 → (helm_machines.numbers_in n).phase ≡ get_or n 0 0
+phase_read n h = sym (other 4294967295 (get_or n 0 0) (le-ltb 4294967295 (get_or n 0 0) (omega (arith, h))))
 
 module _ (n : List ℕ) where
   pub reads_yes : get_or n 0 0 ≡ 3 → reads_f2 (numbers_in n).state ≡ true
@@ -72,17 +78,40 @@ after a = arrays_in (lent_plain a)
 
 -- which is what their lenders find
 module _ (a : Lent) (n : List ℕ) {out : List ℕ} {e : Told} where
-  pub ends_told : {w o u l k s p q : List ℕ} {r : Answer} (f : F2List)
-      → w ≡ a.wanted.now → o ≡ a.owed.now → u ≡ a.fresh.now → l ≡ a.list.now → k ≡ a.known.now → s ≡ a.saved.now → p ≡ a.present.now → q ≡ a.refused.now
+  pub ends_told : {n' w o u l k s p q : List ℕ} {r : Answer} (f : F2List)
+      → n' ≡ n → w ≡ a.wanted.now → o ≡ a.owed.now → u ≡ a.fresh.now → l ≡ a.list.now → k ≡ a.known.now → s ≡ a.saved.now → p ≡ a.present.now → q ≡ a.refused.now
       → told_on r n (parted (after a) f) out ≡ e
-      → told_on r n (lent w o u l k s p q f) out ≡ e
-  ends_told {r = r} f b c d g h i j v x = (λ y. told_on r n (lent (b y) (c y) (d y) (g y) (h y) (i y) (j y) (v y) f) out) ∙ x
+      → told_on r n' (lent w o u l k s p q f) out ≡ e
+  ends_told {r = r} f z b c d g h i j v x = (λ y. told_on r (z y) (lent (b y) (c y) (d y) (g y) (h y) (i y) (j y) (v y) f) out) ∙ x
 
   pub ends_parted : {w o k p q : List ℕ} (r : PartAnswer) (u l v : List ℕ)
       → w ≡ a.wanted.now → o ≡ a.owed.now → k ≡ a.known.now → p ≡ a.present.now → q ≡ a.refused.now
       → told_part_on r n (beside (after a) u l v) out ≡ e
       → told_part_on r n (lent w o u l k v p q) out ≡ e
   ends_parted r u l v b c d g h x = (λ y. told_part_on r n (lent (b y) (c y) u l (d y) v (g y) (h y)) out) ∙ x
+
+-- a refusal is no 0, and the numbers stay
+counts : (r : Refusal) → eqb (refusal_number r) 0 ≡ false
+counts NotWellFormed = refl
+counts TimeOverLimit = refl
+counts MessageTooLong = refl
+counts NoRoom = refl
+counts ListFull = refl
+counts TooManyWanted = refl
+counts RecordTooLong = refl
+
+stays : (n n' : List ℕ) (x : Answer) (r : Refusal) → x ≡ answer_by (Err r) → n ≡ leaves x.number n n'
+stays n n' x r e = other (numbers_as (numbers_in n')) n (ap (λ (y : Answer). eqb y.number 0) e ∙ counts r)
+
+pub stay_left : {n n' : List ℕ} {x : Answer} (r : Refusal) → x ≡ answer_by (Err r) → n' ≡ n → n' ≡ leaves x.number n n'
+stay_left {n} {n'} {x} r e h = h ∙ stays n n' x r e
+
+pub left_same : {n n' : List ℕ} {x : Answer} (r : Refusal) → x ≡ answer_by (Err r) → n' ≡ leaves x.number n n' → n' ≡ n
+left_same {n} {n'} {x} r e h = h ∙ sym (stays n n' x r e)
+
+-- what is known of a refusal
+pub at_err : {P : Type 0} {x : Result ℕ Refusal} {r : Refusal} → x ≡ Err r → OnErr x P → P
+at_err {P} i k = subst (λ (y : Result ℕ Refusal). OnErr y P) i k
 
 is_ok : Result ℕ Refusal → Bool
 is_ok (Ok c) = true
@@ -120,21 +149,26 @@ module _ (n : List ℕ) (b : Arrays) (t : ℕ) (m out : List ℕ) (a : Lent) (ou
     -- `ngt1_session_message`
     module _ (y : get_or n 0 0 ≡ 3 → ⊥) where
       -- it was taken, and these numbers are stored
-      pub took : {c : ℕ} (n' : List ℕ) → Heard (Ok c) → numbers_in n' ≡ with_blank (as_lent z) (is_set (get_or n 16 0))
+      pub took : {c : ℕ} {x : Result ℕ Refusal} (n' : List ℕ) → x ≡ Ok c → Heard x → numbers_in n' ≡ with_blank (as_lent z) (is_set (get_or n 16 0))
           → (f : F2List) → Fits (parted b f)
           → told_on (record { number = 0; count = c }) n' (parted (after a) f) out' ≡ hears n (parted b f) t m out
-      took {c} n' e stored f g =
+      took {c} n' i e stored f g =
           ap {B = Told} (λ (v : Numbers). record { number = 0; count = c; sync = sync_of v (parted (after a) f); out = out' }) stored
-          ∙ told_anyway (numbers_in n) b (as_lent z) (after a) t m (length out) out out' (reads_no n h y) (ran e) f g
+          ∙ told_anyway (numbers_in n) b (as_lent z) (after a) t m (length out) out out' (reads_no n h y) (ran (subst Heard i e)) f g
           ∙ hears_called n (parted b f) t m out h y
 
       -- it was refused
-      pub turned_down : (r : Refusal) → Heard (Err r) → lent_plain a ≡ lent_before
+      pub turned_down : {x : Result ℕ Refusal} (r : Refusal) → x ≡ Err r → Heard x → lent_plain a ≡ lent_before
           → (f : F2List) → Fits (parted b f)
           → told_on (record { number = refusal_number r; count = 0 }) n (parted (after a) f) out' ≡ hears n (parted b f) t m out
-      turned_down r e k f g =
-          told_anyway (numbers_in n) b (numbers_in n) (after a) t m (length out) out out' (reads_no n h y) (refused r e k) f g
+      turned_down r i e k f g =
+          told_anyway (numbers_in n) b (numbers_in n) (after a) t m (length out) out out' (reads_no n h y) (refused r (subst Heard i e) k) f g
           ∙ hears_called n (parted b f) t m out h y
+
+  -- it is for the other function
+  pub unheard : get_or n 0 0 ≡ 3 → lent_plain a ≡ lent_before → out' ≡ out
+      → (f : F2List) → told_on (record { number = 100; count = 0 }) n (parted (after a) f) out' ≡ hears n (parted b f) t m out
+  unheard h k o f = (λ i. told_on (record { number = 100; count = 0 }) n (parted (arrays_in (k i)) f) (o i)) ∙ hears_100 n (parted b f) t m out h
 
   -- `ngt1_session_part`
   module _ (h : get_or n 0 0 ≡ 3) (fits : Fits b) where

@@ -9,11 +9,11 @@ use Rattle.helm.proofs.answers.ask_next.Goals as goal
 
 pub returns-clause-left : goal.returns-clause-left
 returns-clause-left g c =
-    let s = g.M.Memory.stored c.args.memory.now in
+    let s = g.M.Arrays.stored c.args.memory.now in
     let n = c.args.old in
     let k : n.owed - 1 ≡ length (drop 1 (take n.owed s.owed)) = count_shifted s.owed n.owed (omega (arith, c.sized.ensures.owed, c.requires.within)) in
     λ st.
-    ap (λ (r : Step). told_step r (g.M.Memory.stored c.shift_owed.new.self)) c.awaiting.ensures
+    ap (λ (r : Step). told_step r (g.M.Arrays.stored c.shift_owed.new.self)) c.awaiting.ensures
     ∙ (λ i.
     record {
       sent = enable (get_or (c.array.ensures.array i) 1 0) ∷ [];

@@ -13,11 +13,11 @@ unfolding goes_on
 returns-then-old-eq0-clause-left g c =
     λ st.
     rw (le-ltb 1 c.args.old.owed c.if-old-gt1.false, eq-eqb c.args.old.fresh 0 c.if-old-eq0.true)
-    (ap (λ (r : Step). told_step r (g.M.Memory.stored c.args.memory.now)) c.awaiting.ensures)
+    (ap (λ (r : Step). told_step r (g.M.Arrays.stored c.args.memory.now)) c.awaiting.ensures)
 
 pub returns-clause-left : goal.returns-clause-left
 unfolding goes_on
 returns-clause-left g c =
     λ st.
     rw (le-ltb 1 c.args.old.owed c.if-old-gt1.false, ne_eqb c.args.old.fresh 0 c.if-old-eq0.false)
-    (ap (λ (r : Step). told_step r (g.M.Memory.stored c.args.memory.now)) c.awaiting-2.ensures)
+    (ap (λ (r : Step). told_step r (g.M.Arrays.stored c.args.memory.now)) c.awaiting-2.ensures)

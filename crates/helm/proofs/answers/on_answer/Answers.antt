@@ -8,7 +8,7 @@ use Rattle.helm.proofs.answers.on_answer.Goals as goal
 pub mark-marked-requires : goal.mark-marked-requires
 mark-marked-requires g c =
     let w = c.args.tested.within in
-    let r = enabling_room g.M.Memory.limits c.args.tested.numbers c.args.tested.formed c.requires in
+    let r = enabling_room g.M.Arrays.limits c.args.tested.numbers c.args.tested.formed c.requires in
     record {
       known = r.known;
       present = r.present;

@@ -10,9 +10,9 @@ use Rattle.helm.proofs.answers.save.Goals as goal
 pub returns-clause-left : goal.returns-clause-left
 unfolding activated
 returns-clause-left g c =
-    let s = g.M.Memory.stored c.args.memory.now in
+    let s = g.M.Arrays.stored c.args.memory.now in
     let n = c.args.tested.numbers in
     let k : n.saved + n.fresh ≡ n.saved + length (take n.fresh s.fresh) = count_appended s.fresh n.saved n.fresh (omega (arith, c.sized.ensures.fresh, c.args.tested.within.fresh)) in
     λ st.
-    ap (λ (r : Step). told_step r (g.M.Memory.stored c.save_fresh.new.self)) c.awaiting.ensures
+    ap (λ (r : Step). told_step r (g.M.Arrays.stored c.save_fresh.new.self)) c.awaiting.ensures
     ∙ (λ i. record { sent = []; sync = session_at Done (record n { saved = k i; due = c.args.at.ms + 10000 }) (c.save_fresh.ensures i) })

@@ -7,7 +7,7 @@ use Rattle.helm.proofs.arrays.note_present.Goals as goal
 
 pub returns-clause-most : goal.returns-clause-most
 returns-clause-most g c =
-    let s = g.M.Memory.stored c.args.memory.now in
+    let s = g.M.Arrays.stored c.args.memory.now in
     let n = c.args.count in
     let m = c.args.present in
     let h : n + m ≤ length s.known = omega (arith, c.sized.ensures.known, c.requires.room) in
@@ -16,11 +16,11 @@ returns-clause-most g c =
 
 pub returns-clause-value : goal.returns-clause-value
 returns-clause-value g c =
-    let s = g.M.Memory.stored c.args.memory.now in
+    let s = g.M.Arrays.stored c.args.memory.now in
     (noted_all s.known s.present c.args.count c.args.present (omega (arith, c.sized.ensures.known, c.requires.room)) c.note_present.ensures.value).0
 
 pub returns-clause-known : goal.returns-clause-known
 returns-clause-known g c =
-    let s = g.M.Memory.stored c.args.memory.now in
+    let s = g.M.Arrays.stored c.args.memory.now in
     c.note_present.ensures.known
     ∙ ap (with_array s Known) (noted_all s.known s.present c.args.count c.args.present (omega (arith, c.sized.ensures.known, c.requires.room)) c.note_present.ensures.value).1

@@ -8,7 +8,7 @@ use Rattle.helm.proofs.arrays.owe.Goals as goal
 
 pub returns-clause-most : goal.returns-clause-most
 returns-clause-most g c =
-    let s = g.M.Memory.stored c.args.memory.now in
+    let s = g.M.Arrays.stored c.args.memory.now in
     let w = c.args.wanted in
     let o = owed_by w c.args.list c.args.present c.args.refused s in
     let e = owed_all s.owed o w (omega (arith, c.sized.ensures.owed, c.requires)) c.owe.ensures.value in
@@ -17,11 +17,11 @@ returns-clause-most g c =
 
 pub returns-clause-value : goal.returns-clause-value
 returns-clause-value g c =
-    let s = g.M.Memory.stored c.args.memory.now in
+    let s = g.M.Arrays.stored c.args.memory.now in
     (owed_all s.owed (owed_by c.args.wanted c.args.list c.args.present c.args.refused s) c.args.wanted (omega (arith, c.sized.ensures.owed, c.requires)) c.owe.ensures.value).0
 
 pub returns-clause-owed : goal.returns-clause-owed
 returns-clause-owed g c =
-    let s = g.M.Memory.stored c.args.memory.now in
+    let s = g.M.Arrays.stored c.args.memory.now in
     c.owe.ensures.owed
     ∙ ap (with_array s Owed) (owed_all s.owed (owed_by c.args.wanted c.args.list c.args.present c.args.refused s) c.args.wanted (omega (arith, c.sized.ensures.owed, c.requires)) c.owe.ensures.value).1

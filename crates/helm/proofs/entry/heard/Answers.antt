@@ -1,64 +1,37 @@
 use Rattle.std.proofs.Common.{◌≡◌, arith, sym, ap, ◌∙◌}
 use Rattle.numbers.specs.Layout.{state_of}
-use Rattle.tx_list.specs.declared.State.{State}
-use Rattle.tx_list.specs.declared.State.TheVariants.{AwaitStartup, ReadingF2, Reading, Enabling, Activating}
-use Rattle.tx_list.specs.Moves.{full_in, committed}
-use Rattle.helm.specs.declared.steps.Step.{Step}
-use Rattle.helm.specs.Stored.{kind_of, session_of}
-use Rattle.helm.specs.Steps.{told_step}
-use Rattle.helm.proofs.HeardLaws.{reads_two, heard_mode, heard_too_soon, heard_f1, heard_f2, heard_enabled, heard_committed, heard_activated, heard_done}
+use Rattle.tx_list.specs.declared.State.TheVariants.{ReadingF2}
+use Rattle.session.specs.Lent.{reads_f2}
+use Rattle.helm.proofs.HeardLaws.{reads_two, heard_f2}
+use Rattle.helm.proofs.HandLaws.{elsewhere, hand_elsewhere, hand_reading}
 use Rattle.helm.proofs.entry.heard.Goals as goal
-
-pub on_f1-requires : goal.on_f1-requires
-on_f1-requires g c =
-    let s = g.M.Memory.stored c.args.memory.now in
-    let n = c.args.tested.numbers in
-    let e : state_of n.phase n.attempt ≡ Reading c.in-Reading.attempt = sym c.state-state.ensures ∙ c.in-Reading.is in
-    ap (λ (st : State). full_in (kind_of g.M.Memory.limits) st (session_of n s) c.args.payload.now) (sym e) ∙ c.requires.room
 
 pub on_f2-requires : goal.on_f2-requires
 on_f2-requires g c =
     let n = c.args.tested.numbers in
     let e : state_of n.phase n.attempt ≡ ReadingF2 c.in-ReadingF2.attempt = sym c.state-state.ensures ∙ c.in-ReadingF2.is in
-    omega (arith, g.met.M.Memory.limits_fit.whole (reads_two g.M.Memory.limits n c.args.tested.formed e), g.met.M.Memory.limits_fit.known)
+    omega (arith, g.met.M.Arrays.limits_fit.whole (reads_two g.M.Arrays.limits n c.args.tested.formed e), g.met.M.Arrays.limits_fit.known)
 
-pub returns-in-AwaitStartup-clause-left : goal.returns-in-AwaitStartup-clause-left
-returns-in-AwaitStartup-clause-left g c =
-    let s = g.M.Memory.stored c.args.memory.now in
-    heard_mode g.M.Memory.limits s c.args.tested.numbers c.args.at.ms c.args.payload.now (sym c.state-state.ensures ∙ c.in-AwaitStartup.is) c.requires.minds (c.on_mode.ensures AwaitStartup s)
-
-pub returns-in-ReadAt-clause-left : goal.returns-in-ReadAt-clause-left
-returns-in-ReadAt-clause-left g c =
-    let s = g.M.Memory.stored c.args.memory.now in
-    heard_too_soon g.M.Memory.limits s c.args.tested.numbers c.args.at.ms c.args.payload.now (sym c.state-state.ensures ∙ c.in-ReadAt.is) c.requires.minds
-
-pub returns-in-Reading-clause-left : goal.returns-in-Reading-clause-left
-returns-in-Reading-clause-left g c =
-    let s = g.M.Memory.stored c.args.memory.now in
-    heard_f1 g.M.Memory.limits s c.args.tested.numbers c.args.at.ms c.args.payload.now (sym c.state-state.ensures ∙ c.in-Reading.is) c.on_f1.ensures.left
+pub heard_outside-requires : goal.heard_outside-requires
+heard_outside-requires g c =
+    record {
+      outside = ap reads_f2 (sym c.state-state.ensures) ∙ elsewhere c.state-state.result c.in_default.not-ReadingF2;
+      minds = c.requires.minds;
+      room = c.requires.room;
+    }
 
 pub returns-in-ReadingF2-clause-left : goal.returns-in-ReadingF2-clause-left
 returns-in-ReadingF2-clause-left g c =
-    let s = g.M.Memory.stored c.args.memory.now in
-    heard_f2 g.M.Memory.limits s c.args.tested.numbers c.args.at.ms c.args.payload.now (sym c.state-state.ensures ∙ c.in-ReadingF2.is) c.on_f2.ensures.left
+    let s = g.M.Arrays.stored c.args.memory.now in
+    heard_f2 g.M.Arrays.limits s c.args.tested.numbers c.args.at.ms c.args.payload.now (sym c.state-state.ensures ∙ c.in-ReadingF2.is) c.on_f2.ensures.left
 
-pub returns-in-Enabling-clause-left : goal.returns-in-Enabling-clause-left
-returns-in-Enabling-clause-left g c =
-    let s = g.M.Memory.stored c.args.memory.now in
-    heard_enabled g.M.Memory.limits s c.args.tested.numbers c.args.at.ms c.args.payload.now (sym c.state-state.ensures ∙ c.in-Enabling.is) c.requires.minds (c.on_answer.ensures.left Enabling)
+pub returns-in-ReadingF2-clause-hand : goal.returns-in-ReadingF2-clause-hand
+returns-in-ReadingF2-clause-hand g c =
+    let s = g.M.Arrays.stored c.args.memory.now in
+    c.on_f2.ensures.hand ∙ hand_reading c.args.tested.numbers s c.args.payload.now (sym c.state-state.ensures ∙ c.in-ReadingF2.is)
 
-pub returns-in-Committing-clause-left : goal.returns-in-Committing-clause-left
-unfolding committed
-returns-in-Committing-clause-left g c =
-    let s = g.M.Memory.stored c.args.memory.now in
-    heard_committed g.M.Memory.limits s c.args.tested.numbers c.args.at.ms c.args.payload.now (sym c.state-state.ensures ∙ c.in-Committing.is) c.requires.minds (ap (λ (r : Step). told_step r s) c.awaiting.ensures)
-
-pub returns-in-Activating-clause-left : goal.returns-in-Activating-clause-left
-returns-in-Activating-clause-left g c =
-    let s = g.M.Memory.stored c.args.memory.now in
-    heard_activated g.M.Memory.limits s c.args.tested.numbers c.args.at.ms c.args.payload.now (sym c.state-state.ensures ∙ c.in-Activating.is) c.requires.minds (c.save.ensures.left Activating)
-
-pub returns-in-Done-clause-left : goal.returns-in-Done-clause-left
-returns-in-Done-clause-left g c =
-    let s = g.M.Memory.stored c.args.memory.now in
-    heard_done g.M.Memory.limits s c.args.tested.numbers c.args.at.ms c.args.payload.now (sym c.state-state.ensures ∙ c.in-Done.is) c.requires.minds
+pub returns-in_default-clause-hand : goal.returns-in_default-clause-hand
+returns-in_default-clause-hand g c =
+    let s = g.M.Arrays.stored c.args.memory.now in
+    c.heard_outside.ensures.hand
+    ∙ hand_elsewhere c.args.tested.numbers s c.args.payload.now (sym c.state-state.ensures) (elsewhere c.state-state.result c.in_default.not-ReadingF2)

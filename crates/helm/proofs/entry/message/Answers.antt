@@ -1,122 +1,13 @@
-use Rattle.std.proofs.Common.{◌≡◌, ◌<◌, ◌≤◌, true, false, arith, sym, ap, ◌∙◌, length}
-use Rattle.std.proofs.lemmas.Grind.{common_steps}
-use Rattle.bounds.specs.declared.Limits.{Limits}
-use Rattle.numbers.specs.Layout.{state_of as state_by}
-use Rattle.tx_list.specs.Reading.{taken, refuse}
-use Rattle.tx_list.specs.Moves.{full_in, heard}
-use Rattle.session.specs.Sync.{step_of, wrote_step}
-use Rattle.session.specs.Lent.{minds_in}
-use Rattle.session.proofs.CallLaws.{message_far, message_long, message_small, message_full, message_taken}
-use Rattle.helm.specs.declared.stored.Numbers.{Numbers}
-use Rattle.helm.specs.Stored.{kind_of, is_well_formed, session_in, session_of}
-use Rattle.helm.proofs.HeardLaws.{within}
-use Rattle.helm.proofs.CallLaws.{message_unformed, message_judged, message_quiet}
+use Rattle.helm.proofs.CallLaws.{found_quiet, formed_low}
+use Rattle.helm.proofs.HandLaws.{hand_quiet}
 use Rattle.helm.proofs.entry.message.Goals as goal
 
-pub is_full-requires : goal.is_full-requires
-is_full-requires g c =
-    let l = g.M.Memory.limits in
-    let s = g.M.Memory.stored c.args.memory.now in
-    let m = c.args.payload.now in
-    let o = c.args.out.now in
-    let e : is_well_formed l s.numbers ≡ true = sym c.is_session.ensures ∙ c.if-not-is_session.false in
-    let n : c.numbers-numbers.result ≡ s.numbers = c.numbers-numbers.ensures in
-    let w = (within l s.numbers e).list in
-    omega (arith, w, ap (λ (x : Numbers). x.list) n, ap (λ (x : Limits). x.list) c.limits.ensures)
+pub returns-in_default-clause-phase : goal.returns-in_default-clause-phase
+returns-in_default-clause-phase g c =
+    let s = g.M.Arrays.stored c.args.memory.now in
+    formed_low g.M.Arrays.limits s.numbers (found_quiet c.in_ok-at.ensures c.in_default.is).formed
 
-pub hear-requires : goal.hear-requires
-hear-requires g c =
-    let l = g.M.Memory.limits in
-    let s = g.M.Memory.stored c.args.memory.now in
-    let m = c.args.payload.now in
-    let o = c.args.out.now in
-    let e : is_well_formed l s.numbers ≡ true = sym c.is_session.ensures ∙ c.if-not-is_session.false in
-    let n : c.numbers-numbers.result ≡ s.numbers = c.numbers-numbers.ensures in
-    record {
-      formed = e;
-      minds = sym (ap (λ (x : Numbers). minds_in (state_by x.phase x.attempt) m) n) ∙ sym c.minds.ensures ∙ c.if-not-minds.false;
-      list =
-          sym (c.is_full.ensures s ∙ (λ i. full_in (kind_of (c.limits.ensures i)) (state_by (n i).phase (n i).attempt) (session_of (n i) s) m))
-          ∙ c.if-is_full.false;
-      room = c.if-out-lt-OUTPUT_ROOM.false;
-    }
-
-pub returns-then-not-is_session-clause-left : goal.returns-then-not-is_session-clause-left
-returns-then-not-is_session-clause-left g c =
-    let l = g.M.Memory.limits in
-    let s = g.M.Memory.stored c.args.memory.now in
-    let m = c.args.payload.now in
-    let o = c.args.out.now in
-    let e : is_well_formed l s.numbers ≡ false = sym c.is_session.ensures ∙ c.if-not-is_session.true in
-    message_unformed l s g.met.M.Memory.limits_fit c.sized.ensures o c.args.time m (length o) e
-
-pub returns-in_default-clause-left : goal.returns-in_default-clause-left
-returns-in_default-clause-left g c =
-    let l = g.M.Memory.limits in
-    let s = g.M.Memory.stored c.args.memory.now in
-    let m = c.args.payload.now in
-    let o = c.args.out.now in
-    let e : is_well_formed l s.numbers ≡ true = sym c.is_session.ensures ∙ c.if-not-is_session.false in
-    let h : 18446744073709541615 < c.args.time = grind (arith, common_steps) in
-    message_judged l s g.met.M.Memory.limits_fit c.sized.ensures o c.args.time m (length o) (refuse 13) e (message_far c.args.time m (length o) (full_in (kind_of l) (session_in s).state (session_in s) m) h)
-
-pub returns-then-payload-gt-MESSAGE_LIMIT-clause-left : goal.returns-then-payload-gt-MESSAGE_LIMIT-clause-left
-returns-then-payload-gt-MESSAGE_LIMIT-clause-left g c =
-    let l = g.M.Memory.limits in
-    let s = g.M.Memory.stored c.args.memory.now in
-    let m = c.args.payload.now in
-    let o = c.args.out.now in
-    let e : is_well_formed l s.numbers ≡ true = sym c.is_session.ensures ∙ c.if-not-is_session.false in
-    let h : c.args.time ≤ 18446744073709541615 = grind (arith, common_steps) in
-    message_judged l s g.met.M.Memory.limits_fit c.sized.ensures o c.args.time m (length o) (refuse 6) e (message_long c.args.time m (length o) (full_in (kind_of l) (session_in s).state (session_in s) m) h c.if-payload-gt-MESSAGE_LIMIT.true)
-
-pub returns-then-out-lt-OUTPUT_ROOM-clause-left : goal.returns-then-out-lt-OUTPUT_ROOM-clause-left
-returns-then-out-lt-OUTPUT_ROOM-clause-left g c =
-    let l = g.M.Memory.limits in
-    let s = g.M.Memory.stored c.args.memory.now in
-    let m = c.args.payload.now in
-    let o = c.args.out.now in
-    let e : is_well_formed l s.numbers ≡ true = sym c.is_session.ensures ∙ c.if-not-is_session.false in
-    let h : c.args.time ≤ 18446744073709541615 = grind (arith, common_steps) in
-    message_judged l s g.met.M.Memory.limits_fit c.sized.ensures o c.args.time m (length o) (refuse 7) e (message_small c.args.time m (length o) (full_in (kind_of l) (session_in s).state (session_in s) m) h c.if-payload-gt-MESSAGE_LIMIT.false c.if-out-lt-OUTPUT_ROOM.true)
-
-pub returns-then-not-minds-clause-left : goal.returns-then-not-minds-clause-left
-returns-then-not-minds-clause-left g c =
-    let l = g.M.Memory.limits in
-    let s = g.M.Memory.stored c.args.memory.now in
-    let m = c.args.payload.now in
-    let o = c.args.out.now in
-    let e : is_well_formed l s.numbers ≡ true = sym c.is_session.ensures ∙ c.if-not-is_session.false in
-    let h : c.args.time ≤ 18446744073709541615 = grind (arith, common_steps) in
-    let n : c.numbers-numbers.result ≡ s.numbers = c.numbers-numbers.ensures in
-    message_quiet l s g.met.M.Memory.limits_fit c.sized.ensures o c.args.time m (length o) e h c.if-payload-gt-MESSAGE_LIMIT.false c.if-out-lt-OUTPUT_ROOM.false
-    (sym (ap (λ (x : Numbers). minds_in (state_by x.phase x.attempt) m) n) ∙ sym c.minds.ensures ∙ c.if-not-minds.true)
-
-pub returns-then-is_full-clause-left : goal.returns-then-is_full-clause-left
-returns-then-is_full-clause-left g c =
-    let l = g.M.Memory.limits in
-    let s = g.M.Memory.stored c.args.memory.now in
-    let m = c.args.payload.now in
-    let o = c.args.out.now in
-    let e : is_well_formed l s.numbers ≡ true = sym c.is_session.ensures ∙ c.if-not-is_session.false in
-    let h : c.args.time ≤ 18446744073709541615 = grind (arith, common_steps) in
-    let n : c.numbers-numbers.result ≡ s.numbers = c.numbers-numbers.ensures in
-    let q : (full_in (kind_of l) (session_in s).state (session_in s) m) ≡ true =
-    sym (c.is_full.ensures s ∙ (λ i. full_in (kind_of (c.limits.ensures i)) (state_by (n i).phase (n i).attempt) (session_of (n i) s) m)) ∙ c.if-is_full.true in
-    message_judged l s g.met.M.Memory.limits_fit c.sized.ensures o c.args.time m (length o) (refuse 14) e (message_full c.args.time m (length o) (full_in (kind_of l) (session_in s).state (session_in s) m) h c.if-payload-gt-MESSAGE_LIMIT.false c.if-out-lt-OUTPUT_ROOM.false q)
-
-pub returns-clause-left : goal.returns-clause-left
-returns-clause-left g c =
-    let l = g.M.Memory.limits in
-    let s = g.M.Memory.stored c.args.memory.now in
-    let m = c.args.payload.now in
-    let o = c.args.out.now in
-    let e : is_well_formed l s.numbers ≡ true = sym c.is_session.ensures ∙ c.if-not-is_session.false in
-    let h : c.args.time ≤ 18446744073709541615 = grind (arith, common_steps) in
-    let n : c.numbers-numbers.result ≡ s.numbers = c.numbers-numbers.ensures in
-    let a : c.in-Some.at.ms ≡ c.args.time = c.in-Some.ensures.value in
-    let q : (full_in (kind_of l) (session_in s).state (session_in s) m) ≡ false =
-    sym (c.is_full.ensures s ∙ (λ i. full_in (kind_of (c.limits.ensures i)) (state_by (n i).phase (n i).attempt) (session_of (n i) s) m)) ∙ c.if-is_full.false in
-    c.hear.ensures.left
-    ∙ (λ i. wrote_step (step_of (heard (kind_of l) (session_in s).state (session_in s) (a i) m)) o)
-    ∙ message_judged l s g.met.M.Memory.limits_fit c.sized.ensures o c.args.time m (length o) taken e (message_taken c.args.time m (length o) (full_in (kind_of l) (session_in s).state (session_in s) m) h c.if-payload-gt-MESSAGE_LIMIT.false c.if-out-lt-OUTPUT_ROOM.false q)
+pub returns-in_default-clause-hand : goal.returns-in_default-clause-hand
+returns-in_default-clause-hand g c =
+    let s = g.M.Arrays.stored c.args.memory.now in
+    hand_quiet s.numbers s c.args.payload.now (found_quiet c.in_ok-at.ensures c.in_default.is).minds

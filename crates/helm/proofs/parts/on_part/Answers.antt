@@ -1,4 +1,4 @@
-use Rattle.std.proofs.Common.{◌≡◌, true, arith, refl, sym, ap, ◌∙◌, List, ℕ, take}
+use Rattle.std.proofs.Common.{◌≡◌, true, false, arith, refl, sym, ap, ◌∙◌, List, ℕ, take}
 use Rattle.std.proofs.Math.Option.{Option, none}
 use Rattle.std.proofs.lemmas.List.Edits.{sets}
 use Rattle.lists.specs.declared.F2List.{F2List}
@@ -9,12 +9,14 @@ use Rattle.session.specs.Sync.{kind, put, step_of}
 use Rattle.session.specs.ReadingLaws.{front_read}
 use Rattle.helm.specs.declared.stored.Which.TheVariants.{Known}
 use Rattle.helm.specs.Stored.{Stored, parts_of, session_at, with_array}
+use Rattle.session.specs.Lent.{Hand, hand_by}
+use Rattle.helm.specs.Hands.{hand_in}
 use Rattle.helm.proofs.PartLaws.{parts_formed, formed_count}
 use Rattle.helm.proofs.parts.on_part.Goals as goal
 
 pub read_list-requires-clause-formed : goal.read_list-requires-clause-formed
 read_list-requires-clause-formed g c =
-    let s = g.M.Memory.stored c.args.memory.now in
+    let s = g.M.Arrays.stored c.args.memory.now in
     let n = c.args.tested.numbers in
     let m = c.args.payload.now in
     ap formed (c.put_part.ensures ∙ ap (put m) (c.in_hand-parts.ensures ∙ ap (parts_of n) c.parts.ensures)) ∙ parts_formed n s.parts m c.args.tested.within.proprietary
@@ -27,7 +29,7 @@ got-requires g c = omega (arith, c.in-Some.ensures.whole.most, c.requires)
 
 pub keep-requires : goal.keep-requires
 keep-requires g c =
-    let s = g.M.Memory.stored c.args.memory.now in
+    let s = g.M.Arrays.stored c.args.memory.now in
     let n = c.args.tested.numbers in
     let m = c.args.payload.now in
     let pp = c.put_part.ensures ∙ ap (put m) (c.in_hand-parts.ensures ∙ ap (parts_of n) c.parts.ensures) in
@@ -36,8 +38,8 @@ keep-requires g c =
 pub returns-in-Some-clause-left : goal.returns-in-Some-clause-left
 unfolding in_whole
 returns-in-Some-clause-left g c =
-    let s = g.M.Memory.stored c.args.memory.now in
-    let u = g.M.Memory.stored c.store.new.self in
+    let s = g.M.Arrays.stored c.args.memory.now in
+    let u = g.M.Arrays.stored c.store.new.self in
     let n = c.args.tested.numbers in
     let m = c.args.payload.now in
     let t = c.args.at.ms in
@@ -56,7 +58,7 @@ returns-in-Some-clause-left g c =
 pub returns-in-None-clause-left : goal.returns-in-None-clause-left
 unfolding in_whole
 returns-in-None-clause-left g c =
-    let s = g.M.Memory.stored c.args.memory.now in
+    let s = g.M.Arrays.stored c.args.memory.now in
     let n = c.args.tested.numbers in
     let m = c.args.payload.now in
     let t = c.args.at.ms in
@@ -67,3 +69,26 @@ returns-in-None-clause-left g c =
     c.keep.ensures.left
     ∙ ap (λ (p : F2List). step_of (puts kind S p t)) pp
     ∙ sym (ap (λ (x : Option (List ℕ)). step_of (in_whole kind x S P t)) (ap pgns_of (sym pp) ∙ z))
+
+pub returns-in-Some-clause-hand : goal.returns-in-Some-clause-hand
+returns-in-Some-clause-hand g c =
+    let s = g.M.Arrays.stored c.args.memory.now in
+    let n = c.args.tested.numbers in
+    let m = c.args.payload.now in
+    let P = put m (parts_of n s.parts) in
+    let pp : c.put_part.new.parts ≡ P = c.put_part.ensures ∙ ap (put m) (c.in_hand-parts.ensures ∙ ap (parts_of n) c.parts.ensures) in
+    c.got.ensures.hand
+    ∙ ap (hand_in n) c.store.ensures
+    ∙ ap (λ (x : Option (List ℕ)). hand_by x P (hand_in n s)) (sym (ap pgns_of (sym pp) ∙ c.in-Some.ensures.whole.gives))
+
+pub returns-in-None-clause-hand : goal.returns-in-None-clause-hand
+returns-in-None-clause-hand g c =
+    let s = g.M.Arrays.stored c.args.memory.now in
+    let n = c.args.tested.numbers in
+    let m = c.args.payload.now in
+    let P = put m (parts_of n s.parts) in
+    let pp : c.put_part.new.parts ≡ P = c.put_part.ensures ∙ ap (put m) (c.in_hand-parts.ensures ∙ ap (parts_of n) c.parts.ensures) in
+    let z : pgns_of c.put_part.new.parts ≡ none = c.in-None.ensures.part refl in
+    c.keep.ensures.hand
+    ∙ ap {B = Hand} (λ (p : F2List). record { parts = p; blank = false }) pp
+    ∙ ap (λ (x : Option (List ℕ)). hand_by x P (hand_in n s)) (sym (ap pgns_of (sym pp) ∙ z))

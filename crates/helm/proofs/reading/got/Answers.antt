@@ -5,9 +5,9 @@ use Rattle.helm.proofs.reading.got.Goals as goal
 
 pub returns-clause-left : goal.returns-clause-left
 returns-clause-left g c = λ st k z q.
-    let s = g.M.Memory.stored c.args.memory.now in
-    let u = g.M.Memory.stored c.note_present-known.new.memory in
-    let v = g.M.Memory.stored c.owe-owed.new.memory in
+    let s = g.M.Arrays.stored c.args.memory.now in
+    let u = g.M.Arrays.stored c.note_present-known.new.memory in
+    let v = g.M.Arrays.stored c.owe-owed.new.memory in
     let n = c.args.tested.numbers in
     let f = λ (x : ℕ). record n { read = 1; complete = x; known = c.note_present-known.result } in
     let within : c.args.count ≤ length s.known = omega (arith, c.sized.ensures.known, c.requires) in

@@ -5,9 +5,9 @@ use Rattle.helm.proofs.sessions.Session.tick.Goals as goal
 
 pub returns-then-rests-clause-left : goal.returns-then-rests-clause-left
 returns-then-rests-clause-left g c =
-    let l = g.Self.Memory.limits in
-    let s = g.Self.Memory.stored c.args.self.now in
+    let l = g.Self.Arrays.limits in
+    let s = g.Self.Arrays.stored c.args.self.now in
     let o = c.args.out.now in
     let e : rests_on l s.numbers c.args.time (length o) ≡ true =
     (λ i. rests_on (sym c.limits.ensures i) (sym c.numbers.ensures i) c.args.time (length o)) ∙ sym c.rests.ensures ∙ c.if-rests.true in
-    tick_rests l s g.met.Self.Memory.limits_fit c.sized.ensures o c.args.time (length o) e
+    tick_rests l s g.met.Self.Arrays.limits_fit c.sized.ensures o c.args.time (length o) e
