@@ -13,7 +13,8 @@ use Rattle.session.specs.Lent.{Hand, hand_after, minds_in, reads_f2}
 use Rattle.session.specs.LentLaws.{nowhere, blank_told, chosen, other}
 use Rattle.helm.specs.declared.stored.Numbers.{Numbers}
 use Rattle.helm.specs.Linked.{as_lent, stored_in}
-use Rattle.helm.specs.Stored.{Stored, ignores_on, parts_of}
+use Rattle.lists.specs.declared.F2List.{F2List}
+use Rattle.helm.specs.Stored.{Stored, HasSizes, ignores_on, parts_of, with_parts}
 use Rattle.helm.specs.Steps.{minded}
 use Rattle.helm.specs.Hands.{hand_in, handed_in, hand_after_message}
 use Rattle.bounds.specs.declared.Limits.{Limits}
@@ -52,3 +53,17 @@ pub hand_ignored : (l : Limits) (s : Stored) (t : ℕ) (m : List ℕ) (room : �
 hand_ignored l s t m room e =
     let d : minds_in (state_of s.numbers.phase s.numbers.attempt) m ≡ false = grind (arith, nat_tests) in
     hand_quiet s.numbers s m d
+
+-- the arrays' lengths are the same with other parts
+pub sizes_parted : {l : Limits} {s : Stored} (f : F2List) → HasSizes l s → HasSizes l (with_parts s f)
+sizes_parted f z =
+    record {
+      wanted = z.wanted;
+      owed = z.owed;
+      fresh = z.fresh;
+      list = z.list;
+      known = z.known;
+      saved = z.saved;
+      present = z.present;
+      refused = z.refused;
+    }
