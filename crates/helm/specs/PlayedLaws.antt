@@ -391,8 +391,8 @@ module _ (l : Limits) (s : Stored) (time : ℕ) (out : List ℕ) where
         memory_fixed t u e n (ap (λ (v : Hand). v.parts) h) (a.loans ∙ sym b.loans)
 
 -- so of two helms
-pub helm_fixes : (m n : Helm) → helm_stored m ≡ helm_stored n → m ≡ n
-helm_fixes m n e =
+pub helm_fixed : (h k : Helm) → helm_stored h ≡ helm_stored k → h ≡ k
+helm_fixed h k e =
     λ i.
     record {
       numbers = (e i).numbers;
@@ -406,6 +406,21 @@ helm_fixes m n e =
       refused = (e i).refused;
       parts = (e i).parts;
     }
+
+-- and what `Helm::begun` answers is one helm: x is what its contract says of the session, k of the parts
+pub begun_fixes : (x : Begun) (p : Hand) (h k : Helm)
+    → told_begun (Ok h) ≡ x
+    → told_begun (Ok k) ≡ x
+    → h.numbers ≡ plain h.numbers
+    → k.numbers ≡ plain k.numbers
+    → hand_in h.numbers (helm_stored h) ≡ p
+    → hand_in k.numbers (helm_stored k) ≡ p
+    → h ≡ k
+begun_fixes x p h k a b c d f g =
+    let e : session_in (helm_stored h) ≡ session_in (helm_stored k) = ap (λ (v : Begun). v.sync) (a ∙ sym b) in
+    let y : hand_in h.numbers (helm_stored h) ≡ hand_in k.numbers (helm_stored k) = f ∙ sym g in
+    helm_fixed h k
+    (memory_fixed (helm_stored h) (helm_stored k) e (c ∙ numbers_fixed (helm_stored h) (helm_stored k) e y ∙ sym d) (ap (λ (v : Hand). v.parts) y) refl)
 
 -- a phase over 7 is taken as done; so one that is not done is one of the eight
 past_done : (p a : ℕ) → 7 < p → state_of p a ≡ Done
