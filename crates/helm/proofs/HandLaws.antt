@@ -1,9 +1,9 @@
 -- The parts of Format 2 that a message leaves, by what the message is and by the phase.
-use Rattle.std.specs.Prelude.{ℕ, ◌≡◌, Bool, true, false, List, length}
-use Rattle.std.proofs.Common.{arith, refl, sym, ap, ◌∙◌}
+use Rattle.std.specs.Prelude.{ℕ, ◌≡◌, Bool, true, false, List}
+use Rattle.std.proofs.Common.{arith, refl, ap, ◌∙◌}
 use Rattle.std.proofs.lemmas.Bool.Decides.{nat_tests}
 use Rattle.field.specs.Pick.{pick}
-use Rattle.numbers.specs.Layout.{is_set, state_of}
+use Rattle.numbers.specs.Layout.{state_of}
 use Rattle.views.specs.ViewsLaws.{f2_other}
 use Rattle.tx_list.specs.Views.{F2}
 use Rattle.tx_list.specs.declared.State.{State}
@@ -13,7 +13,8 @@ use Rattle.session.specs.Lent.{Hand, hand_after, minds_in, reads_f2}
 use Rattle.session.specs.LentLaws.{nowhere, blank_told, chosen, other}
 use Rattle.helm.specs.declared.stored.Numbers.{Numbers}
 use Rattle.helm.specs.Linked.{as_lent, stored_in}
-use Rattle.helm.specs.Stored.{Stored, ignores_on, parts_of}
+use Rattle.lists.specs.declared.F2List.{F2List}
+use Rattle.helm.specs.Stored.{Stored, HasSizes, ignores_on, parts_of, with_parts}
 use Rattle.helm.specs.Steps.{minded}
 use Rattle.helm.specs.Hands.{hand_in, handed_in, hand_after_message}
 use Rattle.bounds.specs.declared.Limits.{Limits}
@@ -62,3 +63,17 @@ pub hand_ignored : (l : Limits) (s : Stored) (t : ℕ) (m : List ℕ) (room : �
 hand_ignored l s t m room e =
     let d : minds_in (state_of s.numbers.phase s.numbers.attempt) m ≡ false = grind (arith, nat_tests) in
     hand_quiet s.numbers s m d
+
+-- the arrays' lengths are the same with other parts
+pub sizes_parted : {l : Limits} {s : Stored} (f : F2List) → HasSizes l s → HasSizes l (with_parts s f)
+sizes_parted f z =
+    record {
+      wanted = z.wanted;
+      owed = z.owed;
+      fresh = z.fresh;
+      list = z.list;
+      known = z.known;
+      saved = z.saved;
+      present = z.present;
+      refused = z.refused;
+    }

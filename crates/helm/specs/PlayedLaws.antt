@@ -21,7 +21,7 @@ use Rattle.tx_list.specs.Session.{begin}
 use Rattle.tx_list.specs.Live.{Gateway, Helpful, Mixed, start_up_run}
 use Rattle.session.specs.Sync.{Sync, Begun, Told, IsDone, kind, store, clear, begun, begun_with, record_of, learned_in}
 use Rattle.session.specs.Lent.{Fits, begun_in, counted, Hand}
-use Rattle.session.specs.LentLaws.{sized}
+use Rattle.session.specs.LentLaws.{sized, blank_told}
 use Rattle.session.specs.LentPlayed.{InLentMemory}
 use Rattle.session.specs.Played.{Played, Holds, held_by, message', tick', firmware'}
 use Rattle.session.specs.StartUp.{StartedUp}
@@ -32,7 +32,7 @@ use Rattle.helm.specs.declared.machines.Helm.{Helm}
 use Rattle.helm.specs.declared.lent.Lent.{Lent}
 use Rattle.helm.specs.Words.{refusal_number}
 use Rattle.helm.specs.declared.stored.Numbers.{Numbers}
-use Rattle.helm.specs.Stored.{Stored, HasSizes, session_in, plain}
+use Rattle.helm.specs.Stored.{Stored, HasSizes, session_in, plain, rests_on, with_parts}
 use Rattle.helm.specs.Steps.{minded}
 use Rattle.helm.specs.Hands.{hand_in, hand_after_message}
 use Rattle.helm.specs.Calls as contracts
@@ -313,39 +313,86 @@ numbers_fixed s t e h =
       blank = one (h i).blank;
     }
 
--- A MESSAGE FIXES ALL OF MEMORY: two memories that a taken message may leave of the same one are the same, numbers, arrays and parts
-module _ (l : Limits) (s : Stored) (time : ℕ) (payload out : List ℕ) where
-  -- what the contract of a message says of the memory that it leaves
-  pub record Left (count : ℕ) (left : List ℕ) (t : Stored) : Type 0 where
-    pub session : told (Ok count) t left ≡ called l s (message time payload (length out)) out
-    pub loans : t.loans ≡ s.loans
-    pub form : t.numbers ≡ pick (minded s.numbers payload) (plain t.numbers) s.numbers
-    pub hand : hand_in t.numbers t ≡ hand_after_message s.numbers s payload
+-- with the numbers, all of memory
+memory_fixed : (s t : Stored) → session_in s ≡ session_in t → s.numbers ≡ t.numbers → s.parts ≡ t.parts → s.loans ≡ t.loans → s ≡ t
+memory_fixed s t e n f o =
+    λ i.
+    record {
+      numbers = n i;
+      wanted = (e i).wanted.items;
+      owed = (e i).owed.items;
+      fresh = (e i).fresh.items;
+      list = (e i).list.items;
+      known = (e i).known.items;
+      saved = (e i).saved.items;
+      present = (e i).present.items;
+      refused = (e i).refused.items;
+      parts = f i;
+      loans = o i;
+    }
 
-  pub message_fixes : (j k : ℕ) (x y : List ℕ) (t u : Stored) → Left j x t → Left k y u → t ≡ u
-  message_fixes j k x y t u a b =
-      let e : session_in t ≡ session_in u = ap (λ (v : Told). v.sync) (a.session ∙ sym b.session) in
-      let h : hand_in t.numbers t ≡ hand_in u.numbers u = a.hand ∙ sym b.hand in
-      let n : t.numbers ≡ u.numbers =
-      a.form ∙ ap (λ (z : Numbers). pick (minded s.numbers payload) z s.numbers) (numbers_fixed t u e h) ∙ sym b.form in
-      λ i.
-      record {
-        numbers = n i;
-        wanted = (e i).wanted.items;
-        owed = (e i).owed.items;
-        fresh = (e i).fresh.items;
-        list = (e i).list.items;
-        known = (e i).known.items;
-        saved = (e i).saved.items;
-        present = (e i).present.items;
-        refused = (e i).refused.items;
-        parts = (h i).parts;
-        loans = (a.loans ∙ sym b.loans) i;
-      }
+-- where the sessions are the same whatever parts are in memory, the same is in hand
+hand_fixed : (s t : Stored) → ((f : F2List) → session_in (with_parts s f) ≡ session_in (with_parts t f)) → s.parts ≡ t.parts → hand_in s.numbers s ≡ hand_in t.numbers t
+hand_fixed s t e p =
+    λ i.
+    record {
+      parts = p i;
+      blank = blank_told (as_lent s.numbers).totals (as_lent t.numbers).totals (λ f. ap (λ (h : Sync). h.f2) (e f)) i;
+    }
+
+-- A CALL FIXES ALL OF MEMORY: two memories that it may leave of the same one are the same, numbers, arrays and parts
+
+-- what the contracts of begin, restart, set_firmware and abandon say of the memory that they leave, where x is said of what they answer and
+-- leave with these parts
+pub record Renewed (x : F2List → Begun) (s t : Stored) : Type 0 where
+  pub session : (f : F2List) → ◌≡◌ {A = Begun} (record { number = 0; sync = session_in (with_parts t f) }) (x f)
+  pub loans : t.loans ≡ s.loans
+  pub form : t.numbers ≡ plain t.numbers
+  pub parts : t.parts ≡ s.parts
+
+pub renewed_fixes : (x : F2List → Begun) (s t u : Stored) → Renewed x s t → Renewed x s u → t ≡ u
+renewed_fixes x s t u a b =
+    let e : (f : F2List) → session_in (with_parts t f) ≡ session_in (with_parts u f) = λ f. ap (λ (v : Begun). v.sync) (a.session f ∙ sym (b.session f)) in
+    let p : t.parts ≡ u.parts = a.parts ∙ sym b.parts in
+    let h = hand_fixed t u e p in
+    let k : session_in t ≡ session_in u = e t.parts ∙ ap (λ (f : F2List). session_in (with_parts u f)) p in
+    memory_fixed t u k (a.form ∙ numbers_fixed t u k h ∙ sym b.form) p (a.loans ∙ sym b.loans)
+
+module _ (l : Limits) (s : Stored) (time : ℕ) (out : List ℕ) where
+  -- what the contract of a tick says of the memory that it leaves
+  pub record Ticked (count : ℕ) (left : List ℕ) (t : Stored) : Type 0 where
+    pub session : (f : F2List) → told (Ok count) (with_parts t f) left ≡ called l (with_parts s f) (tick time (length out)) out
+    pub loans : t.loans ≡ s.loans
+    pub form : t.numbers ≡ pick (rests_on l s.numbers time (length out)) s.numbers (plain t.numbers)
+    pub parts : t.parts ≡ s.parts
+
+  pub tick_fixes : (j k : ℕ) (x y : List ℕ) (t u : Stored) → Ticked j x t → Ticked k y u → t ≡ u
+  tick_fixes j k x y t u a b =
+      let e : (f : F2List) → session_in (with_parts t f) ≡ session_in (with_parts u f) = λ f. ap (λ (v : Told). v.sync) (a.session f ∙ sym (b.session f)) in
+      let p : t.parts ≡ u.parts = a.parts ∙ sym b.parts in
+      let h = hand_fixed t u e p in
+      let k : session_in t ≡ session_in u = e t.parts ∙ ap (λ (f : F2List). session_in (with_parts u f)) p in
+      let n = a.form ∙ ap (pick (rests_on l s.numbers time (length out)) s.numbers) (numbers_fixed t u k h) ∙ sym b.form in
+      memory_fixed t u k n p (a.loans ∙ sym b.loans)
+
+  module _ (payload : List ℕ) where
+    -- what the contract of a message says of the memory that it leaves
+    pub record Heard (count : ℕ) (left : List ℕ) (t : Stored) : Type 0 where
+      pub session : told (Ok count) t left ≡ called l s (message time payload (length out)) out
+      pub loans : t.loans ≡ s.loans
+      pub form : t.numbers ≡ pick (minded s.numbers payload) (plain t.numbers) s.numbers
+      pub hand : hand_in t.numbers t ≡ hand_after_message s.numbers s payload
+
+    pub message_fixes : (j k : ℕ) (x y : List ℕ) (t u : Stored) → Heard j x t → Heard k y u → t ≡ u
+    message_fixes j k x y t u a b =
+        let e : session_in t ≡ session_in u = ap (λ (v : Told). v.sync) (a.session ∙ sym b.session) in
+        let h : hand_in t.numbers t ≡ hand_in u.numbers u = a.hand ∙ sym b.hand in
+        let n = a.form ∙ ap (λ (z : Numbers). pick (minded s.numbers payload) z s.numbers) (numbers_fixed t u e h) ∙ sym b.form in
+        memory_fixed t u e n (ap (λ (v : Hand). v.parts) h) (a.loans ∙ sym b.loans)
 
 -- so of two helms
-pub helm_fixes : (m n : Helm) → helm_stored m ≡ helm_stored n → m ≡ n
-helm_fixes m n e =
+pub helm_fixed : (h k : Helm) → helm_stored h ≡ helm_stored k → h ≡ k
+helm_fixed h k e =
     λ i.
     record {
       numbers = (e i).numbers;
@@ -359,6 +406,21 @@ helm_fixes m n e =
       refused = (e i).refused;
       parts = (e i).parts;
     }
+
+-- and what `Helm::begun` answers is one helm: x is what its contract says of the session, k of the parts
+pub begun_fixes : (x : Begun) (p : Hand) (h k : Helm)
+    → told_begun (Ok h) ≡ x
+    → told_begun (Ok k) ≡ x
+    → h.numbers ≡ plain h.numbers
+    → k.numbers ≡ plain k.numbers
+    → hand_in h.numbers (helm_stored h) ≡ p
+    → hand_in k.numbers (helm_stored k) ≡ p
+    → h ≡ k
+begun_fixes x p h k a b c d f g =
+    let e : session_in (helm_stored h) ≡ session_in (helm_stored k) = ap (λ (v : Begun). v.sync) (a ∙ sym b) in
+    let y : hand_in h.numbers (helm_stored h) ≡ hand_in k.numbers (helm_stored k) = f ∙ sym g in
+    helm_fixed h k
+    (memory_fixed (helm_stored h) (helm_stored k) e (c ∙ numbers_fixed (helm_stored h) (helm_stored k) e y ∙ sym d) (ap (λ (v : Hand). v.parts) y) refl)
 
 -- a phase over 7 is taken as done; so one that is not done is one of the eight
 past_done : (p a : ℕ) → 7 < p → state_of p a ≡ Done

@@ -4,7 +4,8 @@ ghost use Rattle.numbers.specs.Layout.{state_of};
 ghost use Rattle.session.specs.Sync.{wrote_step};
 ghost use Rattle.session.specs.Lent.{reads_f2};
 ghost use Rattle.field.specs.Pick.{pick};
-ghost use Rattle.helm.specs.Stored.{is_well_formed, plain};
+ghost use Rattle.lists.specs.declared.F2List.{F2List};
+ghost use Rattle.helm.specs.Stored.{is_well_formed, plain, with_parts};
 ghost use Rattle.helm.specs.Steps.{told_step, minded, overfills, heard_by};
 ghost use Rattle.helm.specs.Hands.{hand_in, hand_after_message};
 ghost use Rattle.helm.specs.Calls.{told, called, Judged};
@@ -124,6 +125,7 @@ pub(crate) fn tick<M: Arrays>(memory: &mut M, time: u64, out: &mut [u8]) -> Resu
     ensures phase { OnOk result ((M.stored memory.new).numbers.phase ≤ 7) }
     ensures form { OnOk result ((M.stored memory.new).numbers ≡ plain (M.stored memory.new).numbers) }
     ensures parts { (M.stored memory.new).parts ≡ (M.stored memory.old).parts }
+    ensures any_parts { (f : F2List) → told result (with_parts (M.stored memory.new) f) out.new ≡ called M.limits (with_parts (M.stored memory.old) f) (model.tick time (length out.old)) out.old }
     ensures err { OnErr result (memory.new ≡ memory.old) }
 {
     sized(memory);

@@ -1,8 +1,11 @@
 // kept: a count has 32 bits in memory and is a usize in a slice: std has no `From` of u32 for usize, and `try_from` back would have a refusal that never comes.
 ghost use Rattle.std.proofs.Common.{rules};
-ghost use Rattle.std.specs.Prelude.{◌≡◌};
+ghost use Rattle.std.specs.Prelude.{◌≡◌, IfOk, true};
+ghost use Rattle.lists.specs.Format2.{no_parts};
 ghost use Rattle.session.specs.Sync.{begun_with};
+ghost use Rattle.helm.specs.Hands.{hand_in};
 ghost use Rattle.helm.specs.Machines.{helm_blank, helm_limits, helm_stored, told_begun};
+ghost use Rattle.helm.specs.Stored.{plain};
 
 use crate::memory::{Arrays, Memory};
 use crate::sessions::Session;
@@ -46,14 +49,17 @@ impl Helm {
         }
     }
 
-    /// A session that wants these PGNs, with what earlier ones learned: those saved, already there, refused. Refuses with 11, 12.
+    /// A session that wants these PGNs, with what earlier ones learned: those saved, already there, refused. No part of Format 2 is in memory. Refuses
+    /// with 11, 12.
     pub fn begun(
         wanted: &[u32],
         saved: &[u32],
         present: &[u32],
         refused: &[u32],
     ) -> Result<Helm, Refusal>
-        ensures { told_begun result ≡ begun_with wanted.now (record { saved = saved.now; present = present.now; refused = refused.now }) }
+        ensures left { told_begun result ≡ begun_with wanted.now (record { saved = saved.now; present = present.now; refused = refused.now }) }
+        ensures form { IfOk result (λ h. h.numbers ≡ plain h.numbers) }
+        ensures hand { IfOk result (λ h. hand_in h.numbers (helm_stored h) ≡ record { parts = no_parts; blank = true }) }
     {
         if Helm::limits().wanted < wanted.len() {
             return Err(Refusal::TooManyWanted);

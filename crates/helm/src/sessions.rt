@@ -1,7 +1,8 @@
 ghost use Rattle.std.specs.Prelude.{◌≡◌, ◌≤◌, List, ℕ, Ok, IsTrue, OnErr, OnOk, length};
 ghost use Rattle.tx_list.specs.Reading as model;
 ghost use Rattle.field.specs.Pick.{pick};
-ghost use Rattle.helm.specs.Stored.{pgns_in, plain, rests_on};
+ghost use Rattle.lists.specs.declared.F2List.{F2List};
+ghost use Rattle.helm.specs.Stored.{pgns_in, plain, rests_on, with_parts};
 ghost use Rattle.helm.specs.Steps.{minded};
 ghost use Rattle.helm.specs.Hands.{hand_in, hand_after_message};
 ghost use Rattle.helm.specs.Calls.{told, told_done, begun_with, called, set_to, restarted, abandoned, state_of, done_of, told_lacks, lack_of, idle_at, ignored_at};
@@ -14,7 +15,9 @@ use crate::words::{Lack, Refusal};
 
 /// The calls of a session. A refusal changes nothing; a call that is taken leaves a phase up to 7, and what it stores is `plain`: a tick that one
 /// look tells to do nothing, and a message that is of no interest, store nothing; commands go into a lent output of `OUTPUT_ROOM` bytes or more, end to end.
-// kept: no plainer: what a call promises beside the session is a clause each: `form`, `loans`, `phase`, `parts`, and `err` where it refuses; callers cite one
+/// No call but a message touches the parts of Format 2 in memory, and what it does is the same whatever stands there. So a call that is taken leaves
+/// nothing of memory open, nor what of it is not in hand (`renewed_fixes`, `tick_fixes`, `message_fixes`).
+// kept: no plainer: what a call promises beside the session is a clause each: `form`, `loans`, `phase`, `parts` and `any_parts`, or `hand`, and `err` where it refuses; callers cite one
 // at a time, and as one record it would be taken apart again by each.
 pub trait Session: Memory {
     /// A session that wants these PGNs. Its record is what stands in the lists of saved, present and refused. Refuses with 11, 12.
@@ -24,6 +27,7 @@ pub trait Session: Memory {
         ensures phase { OnOk result ((Self.stored self.new).numbers.phase ≤ 7) }
         ensures form { OnOk result ((Self.stored self.new).numbers ≡ plain (Self.stored self.new).numbers) }
         ensures parts { (Self.stored self.new).parts ≡ (Self.stored self.old).parts }
+        ensures any_parts { (f : F2List) → told_done result (with_parts (Self.stored self.new) f) ≡ begun_with Self.limits (with_parts (Self.stored self.old) f) wanted.now }
         ensures err { OnErr result (self.new ≡ self.old) }
     {
         sized(self);
@@ -40,6 +44,7 @@ pub trait Session: Memory {
         ensures phase { OnOk result ((Self.stored self.new).numbers.phase ≤ 7) }
         ensures form { OnOk result ((Self.stored self.new).numbers ≡ plain (Self.stored self.new).numbers) }
         ensures parts { (Self.stored self.new).parts ≡ (Self.stored self.old).parts }
+        ensures any_parts { (f : F2List) → told_done result (with_parts (Self.stored self.new) f) ≡ restarted Self.limits (with_parts (Self.stored self.old) f) }
         ensures err { OnErr result (self.new ≡ self.old) }
     {
         sized(self);
@@ -55,6 +60,7 @@ pub trait Session: Memory {
         ensures phase { OnOk result ((Self.stored self.new).numbers.phase ≤ 7) }
         ensures form { OnOk result ((Self.stored self.new).numbers ≡ plain (Self.stored self.new).numbers) }
         ensures parts { (Self.stored self.new).parts ≡ (Self.stored self.old).parts }
+        ensures any_parts { (f : F2List) → told_done result (with_parts (Self.stored self.new) f) ≡ set_to Self.limits (with_parts (Self.stored self.old) f) version }
         ensures err { OnErr result (self.new ≡ self.old) }
     {
         sized(self);
@@ -70,6 +76,7 @@ pub trait Session: Memory {
         ensures phase { OnOk result ((Self.stored self.new).numbers.phase ≤ 7) }
         ensures form { OnOk result ((Self.stored self.new).numbers ≡ plain (Self.stored self.new).numbers) }
         ensures parts { (Self.stored self.new).parts ≡ (Self.stored self.old).parts }
+        ensures any_parts { (f : F2List) → told_done result (with_parts (Self.stored self.new) f) ≡ abandoned Self.limits (with_parts (Self.stored self.old) f) }
         ensures err { OnErr result (self.new ≡ self.old) }
     {
         sized(self);
@@ -129,6 +136,7 @@ pub trait Session: Memory {
         ensures phase { OnOk result ((Self.stored self.new).numbers.phase ≤ 7) }
         ensures form { OnOk result ((Self.stored self.new).numbers ≡ pick (rests_on Self.limits (Self.stored self.old).numbers time (length out.old)) (Self.stored self.old).numbers (plain (Self.stored self.new).numbers)) }
         ensures parts { (Self.stored self.new).parts ≡ (Self.stored self.old).parts }
+        ensures any_parts { (f : F2List) → told result (with_parts (Self.stored self.new) f) out.new ≡ called Self.limits (with_parts (Self.stored self.old) f) (model.tick time (length out.old)) out.old }
         ensures err { OnErr result (self.new ≡ self.old) }
     {
         sized(self);
@@ -138,7 +146,8 @@ pub trait Session: Memory {
         entry::tick(self, time, out)
     }
 
-    /// A message of the gateway at a time. Refuses with 16, 13, 6, 7, 14.
+    /// A message of the gateway at a time. While Format 2 is read, a part of its lists is kept with those in hand, until the list is whole; any other message, and
+    /// each one in another phase, leaves the parts in memory as they were, in hand or not. Refuses with 16, 13, 6, 7, 14.
     final fn message(&mut self, time: u64, payload: &[u8], out: &mut [u8]) -> Result<usize, Refusal>
         ensures left { told result (Self.stored self.new) out.new ≡ called Self.limits (Self.stored self.old) (model.message time payload.now (length out.old)) out.old }
         ensures loans { (Self.stored self.new).loans ≡ (Self.stored self.old).loans }

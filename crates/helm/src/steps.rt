@@ -2,6 +2,7 @@
 ghost use Rattle.std.specs.Prelude.{◌≡◌, ◌≤◌, length};
 ghost use Rattle.field.specs.Written.{written};
 ghost use Rattle.framing.specs.Encode.{count_of};
+ghost use Rattle.numbers.specs.Layout.{is_set};
 ghost use Rattle.helm.specs.Steps.{bytes_of, told_step};
 ghost use Rattle.helm.specs.Stored.{Stored, plain, session_of};
 
@@ -24,6 +25,7 @@ impl Step {
         ensures left { (s : Stored) → session_of result s ≡ (told_step self s).sync }
         ensures phase { result.phase ≤ 7 }
         ensures form { result ≡ plain result }
+        ensures blank { is_set result.blank ≡ is_set self.numbers.blank }
     {
         self.numbers.plain_in(self.state)
     }

@@ -8,8 +8,8 @@ use Rattle.transmits.proofs.Seen.of.Goals as goal
 
 pub returns : goal.returns
 returns g c =
-    let l = g.M.Memory.limits in
-    let s = g.M.Memory.stored c.args.session.now in
+    let l = g.M.Arrays.limits in
+    let s = g.M.Arrays.stored c.args.session.now in
     let done : c.unwrap_or-done.result ≡ is_done_by (done_of (state_of l s)) = c.unwrap_or-done.ensures ∙ ap is_done_by c.is_done.ensures in
     let pending = c.contains.ensures.value ∙ has_any c.args.pgn c.pending.result.now ∙ ap (has c.args.pgn) (c.pending.ensures ∙ (λ i. pending_in (done i) (c.pgns.ensures i))) in
     λ i.
