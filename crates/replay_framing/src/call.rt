@@ -6,9 +6,6 @@ const ENCODE: u8 = 0x12;
 
 const LENT: u8 = 0x4A;
 
-// The most that a lent buffer can have.
-const MOST: usize = 1100;
-
 // ENCODE: a message into a frame, in an area of so many bytes.
 // kept: no plainer: replay_encode has its own, of more messages; one for both would stand in `transcript`, and `transcript` then on
 // `framing`, `records` and `commands`
@@ -40,26 +37,24 @@ impl LentCall for Encode<'_> {
     }
 }
 
-// A call of the decoder.
+// A call of the decoder, whose answer has a body.
 #[derive(Clone, Copy)]
 pub(crate) enum Decode<'a> {
     Reset,
     Push(&'a [u8]),
     PushEach(&'a [u8]),
-    Set {
-        phase: Phase,
-        held: &'a [u8],
-    },
-    Raw {
-        phase: Phase,
-        count: usize,
-        len: usize,
-    },
+    Set { phase: Phase, held: &'a [u8] },
     Look,
 }
 
 #[derive(Clone, Copy)]
 pub(crate) enum Request<'a> {
+    // Another decoder, over a lent buffer of so many bytes: DEC_RAW.
+    Replace {
+        phase: Phase,
+        count: usize,
+        len: usize,
+    },
     Decode(Decode<'a>),
     Encode(Encode<'a>),
     Lent(Encode<'a>),
@@ -87,11 +82,11 @@ impl<'a> Request<'a> {
                 phase: phase_of(body.take()),
                 held: body.rest(),
             })),
-            0x14 => Some(Request::Decode(Decode::Raw {
+            0x14 => Some(Request::Replace {
                 phase: phase_of(body.take()),
                 count: usize::from(body.take::<u16>()),
-                len: usize::from(body.take::<u16>()).min(MOST),
-            })),
+                len: usize::from(body.take::<u16>()),
+            }),
             0x15 => Some(Request::Decode(Decode::Look)),
             0x16 => Some(Request::Decode(Decode::PushEach(body.rest()))),
             LENT => match body.take() {

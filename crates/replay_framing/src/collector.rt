@@ -1,14 +1,32 @@
 // The block's decoder with the buffer that it is lent, and calls of it.
+ghost use Rattle.std.specs.Prelude.{◌≡◌, ◌≤◌, length, min};
+
 use crate::call::Decode;
 use crate::event::{put_event, put_state};
 use framing::{DecodeError, Decoder, MAX_COLLECT, Phase};
-use std::alloc::{AllocError, Global};
+use std::marker::Model;
 use transcript::{BLANK, Transcript};
 
+// The most that a lent buffer can have.
+const MOST: usize = 1100;
+
+// The lent buffer is the front of an array. A contract sees the bytes in it alone.
+// kept: a rule of the project (fixed memory) needs it: a `Vec` is on the heap, and each call could run out of memory
 #[derive(Drop)]
 pub(crate) struct Collector {
     decoder: Decoder,
-    lent: Vec<u8>,
+    bytes: [u8; MOST],
+    len: usize,
+}
+
+impl Model for Collector {
+    ghost use Rattle.std.specs.Prelude.{ℕ, ◌≤◌, List, take};
+
+    ghost Value = { List ℕ };
+
+    ghost view = { λ c. take c.len c.bytes };
+
+    ghost invariant = { λ c. c.len ≤ 1100 };
 }
 
 // Pushes all bytes by push_bytes.
@@ -47,47 +65,44 @@ fn push_each(
 }
 
 impl Collector {
-    // A new decoder over a blank buffer.
-    pub(crate) fn new(alloc: Global) -> Result<Self, AllocError> {
-        Ok(Collector {
-            decoder: Decoder::new(),
-            lent: vec![in alloc; BLANK; MAX_COLLECT]?,
-        })
+    // A decoder in any state, over a blank buffer of so many bytes, or as many as it can have.
+    pub(crate) fn raw(phase: Phase, count: usize, len: usize) -> Self
+        ensures { length result ≡ min len 1100 }
+    {
+        Collector {
+            decoder: Decoder { phase, count },
+            bytes: [BLANK; MOST],
+            len: len.min(MOST),
+        }
     }
 
-    // A decoder in any state, over a blank buffer of any length.
-    fn set_raw(&mut self, phase: Phase, count: usize, len: usize) -> Result<(), AllocError> {
-        self.lent.clear();
-        self.lent.resize(len, BLANK)?;
-        self.decoder = Decoder { phase, count };
-        Ok(())
+    // A new decoder over a blank buffer.
+    pub(crate) fn new() -> Self
+        ensures { length result ≡ 1024 }
+    {
+        Collector::raw(Phase::Idle, 0, MAX_COLLECT)
     }
 
     // A decoder that holds bytes, at the front of a buffer of 1,024 bytes again.
-    fn set(&mut self, phase: Phase, held: &[u8]) -> Result<(), AllocError> {
-        self.lent.resize(MAX_COLLECT, BLANK)?;
-        Transcript::at(&mut self.lent, 0).put_bytes(held);
+    fn set(&mut self, phase: Phase, held: &[u8])
+        requires { length held.now ≤ 1024 }
+    {
+        if self.len < MAX_COLLECT {
+            self.bytes[self.len..MAX_COLLECT].fill(BLANK);
+        }
+        self.len = MAX_COLLECT;
+        self.bytes[..held.len()].copy_from_slice(held);
         self.decoder = Decoder {
             phase,
             count: held.len(),
         };
-        Ok(())
     }
 
     // Phase, count and the sum of the lent buffer.
-    fn put_state(&self, out: &mut Transcript<'_>) {
-        put_state(out, self.decoder, &self.lent);
-    }
-
-    // Puts the state after bytes that were pushed, where none was refused.
-    fn pushed(
-        &self,
-        pushed: Result<(), DecodeError>,
-        out: &mut Transcript<'_>,
-    ) -> Result<(), DecodeError> {
-        pushed?;
-        self.put_state(out);
-        Ok(())
+    fn put_state(&self, out: &mut Transcript<'_>)
+        ensures { length self.now ≤ 1100 }
+    {
+        put_state(out, self.decoder, &self.bytes[..self.len]);
     }
 
     // Makes a call and puts the body of its answer, or gives its refusal.
@@ -95,30 +110,24 @@ impl Collector {
         &mut self,
         call: Decode<'_>,
         out: &mut Transcript<'_>,
-    ) -> Result<Result<(), DecodeError>, AllocError> {
+    ) -> Result<(), DecodeError> {
         match call {
-            Decode::Reset => {
-                self.set_raw(Phase::Idle, 0, MAX_COLLECT)?;
-                self.put_state(out);
-            }
+            Decode::Reset => *self = Collector::new(),
             Decode::Push(bytes) => {
-                let pushed = push_slices(&mut self.decoder, &mut self.lent, bytes, out);
-                return Ok(self.pushed(pushed, out));
+                let lent = &mut self.bytes[..];
+                push_slices(&mut self.decoder, &mut lent[..self.len], bytes, out)?;
             }
             Decode::PushEach(bytes) => {
-                let pushed = push_each(&mut self.decoder, &mut self.lent, bytes, out);
-                return Ok(self.pushed(pushed, out));
+                let lent = &mut self.bytes[..];
+                push_each(&mut self.decoder, &mut lent[..self.len], bytes, out)?;
             }
             Decode::Set { phase: _, held } if held.len() > MAX_COLLECT => {
-                return Ok(Err(DecodeError::CountTooLarge));
+                return Err(DecodeError::CountTooLarge);
             }
-            Decode::Set { phase, held } => {
-                self.set(phase, held)?;
-                self.put_state(out);
-            }
-            Decode::Raw { phase, count, len } => self.set_raw(phase, count, len)?,
-            Decode::Look => self.put_state(out),
+            Decode::Set { phase, held } => self.set(phase, held),
+            Decode::Look => {}
         }
-        Ok(Ok(()))
+        self.put_state(out);
+        Ok(())
     }
 }

@@ -38,7 +38,7 @@ pub(crate) enum Event<'a> {
 #[derive(Clone, Copy)]
 pub(crate) struct Step<'a> {
     time: u64,
-    room: usize,
+    pub room: usize,
     event: Event<'a>,
 }
 

@@ -2,7 +2,6 @@
 use crate::refused::Refused;
 use helm::words::Refusal;
 use scripts::LineError;
-use std::alloc::{AllocError, AllocFailed};
 use std::fmt;
 
 #[derive(Clone, Copy)]
@@ -16,7 +15,6 @@ pub(crate) enum Stop {
     BadLine(u64, LineError),
     LongLine(u64),
     Unreadable,
-    OutOfMemory,
 }
 
 impl fmt::Display for Stop {
@@ -31,7 +29,6 @@ impl fmt::Display for Stop {
             Stop::BadLine(number, error) => write!(f, "line {number}: {error}"),
             Stop::LongLine(number) => write!(f, "line {number}: longer than 65535 bytes"),
             Stop::Unreadable => write!(f, "standard input cannot be read"),
-            Stop::OutOfMemory => write!(f, "out of memory"),
         }
     }
 }
@@ -42,21 +39,9 @@ impl From<Refusal> for Stop {
     }
 }
 
-impl From<AllocError> for Stop {
-    fn from(_e: AllocError) -> Stop {
-        Stop::OutOfMemory
-    }
-}
-
-impl<T: Drop> From<AllocFailed<T>> for Stop {
-    fn from(_e: AllocFailed<T>) -> Stop {
-        Stop::OutOfMemory
-    }
-}
-
-// Of a buffered reader that is not made for want of memory.
+// Of a read that fails.
 impl From<std::io::Error> for Stop {
     fn from(_e: std::io::Error) -> Stop {
-        Stop::OutOfMemory
+        Stop::Unreadable
     }
 }
