@@ -1,5 +1,0 @@
--- What falls with each call.
-use Rattle.report.proofs.text.Text.+push_decimal.Given as goal
-
-abbrev pub decreases-push_decimal : goal.decreases-push_decimal
-decreases-push_decimal l = l.n
