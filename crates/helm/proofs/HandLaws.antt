@@ -1,9 +1,9 @@
 -- The parts of Format 2 that a message leaves, by what the message is and by the phase.
-use Rattle.std.specs.Prelude.{ℕ, ◌≡◌, Bool, true, false, List, length}
-use Rattle.std.proofs.Common.{arith, refl, sym, ap, ◌∙◌}
+use Rattle.std.specs.Prelude.{ℕ, ◌≡◌, Bool, true, false, List}
+use Rattle.std.proofs.Common.{arith, refl, ap, ◌∙◌}
 use Rattle.std.proofs.lemmas.Bool.Decides.{nat_tests}
 use Rattle.field.specs.Pick.{pick}
-use Rattle.numbers.specs.Layout.{is_set, state_of}
+use Rattle.numbers.specs.Layout.{state_of}
 use Rattle.views.specs.ViewsLaws.{f2_other}
 use Rattle.tx_list.specs.Views.{F2}
 use Rattle.tx_list.specs.declared.State.{State}
