@@ -93,7 +93,7 @@ impl Numbers {
 }
 
 /// The 17 numbers that tell these.
-pub(crate) fn laid_out(x: Numbers) -> [u64; 17]
+fn laid_out(x: Numbers) -> [u64; 17]
     ensures { numbers_in result ≡ x }
 {
     [
