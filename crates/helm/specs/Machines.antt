@@ -144,28 +144,51 @@ lent_plain m =
 abbrev pub lent_stored : Lent → Stored
 lent_stored m = record (lent_plain m) { loans = loans_of m }
 
--- the same references, with no parts
-abbrev pub partless : LentArrays → Lent
-partless m =
+-- the same with the numbers in hand, and no parts
+abbrev pub arrays_plain : LentArrays → Stored
+arrays_plain m =
     record {
       numbers = m.numbers;
-      wanted = m.wanted;
-      owed = m.owed;
-      fresh = m.fresh;
-      list = m.list;
-      known = m.known;
-      saved = m.saved;
-      present = m.present;
-      refused = m.refused;
-      parts = None;
+      wanted = m.wanted.now;
+      owed = m.owed.now;
+      fresh = m.fresh.now;
+      list = m.list.now;
+      known = m.known.now;
+      saved = m.saved.now;
+      present = m.present.now;
+      refused = m.refused.now;
+      parts = no_parts;
+      loans = [];
     }
 
-abbrev pub lent_arrays_stored : LentArrays → Stored
-lent_arrays_stored m = lent_stored (partless m)
+abbrev pub arrays_stored : LentArrays → Stored
+arrays_stored m =
+    record (arrays_plain m) {
+      loans =
+          m.wanted.ghost_name
+          ∷ m.owed.ghost_name
+          ∷ m.fresh.ghost_name
+          ∷ m.list.ghost_name
+          ∷ m.known.ghost_name
+          ∷ m.saved.ghost_name
+          ∷ m.present.ghost_name
+          ∷ m.refused.ghost_name
+          ∷ [];
+    }
 
 -- one holds the references of the other, each in its place: what the one ends with, the lender finds
 pub record SameLoans (a b : Lent) : Type 0 where
   pub numbers : a.numbers.ghost_name ≡ b.numbers.ghost_name
+  pub wanted : a.wanted.ghost_name ≡ b.wanted.ghost_name
+  pub owed : a.owed.ghost_name ≡ b.owed.ghost_name
+  pub fresh : a.fresh.ghost_name ≡ b.fresh.ghost_name
+  pub list : a.list.ghost_name ≡ b.list.ghost_name
+  pub known : a.known.ghost_name ≡ b.known.ghost_name
+  pub saved : a.saved.ghost_name ≡ b.saved.ghost_name
+  pub present : a.present.ghost_name ≡ b.present.ghost_name
+  pub refused : a.refused.ghost_name ≡ b.refused.ghost_name
+
+pub record SameArrays (a b : LentArrays) : Type 0 where
   pub wanted : a.wanted.ghost_name ≡ b.wanted.ghost_name
   pub owed : a.owed.ghost_name ≡ b.owed.ghost_name
   pub fresh : a.fresh.ghost_name ≡ b.fresh.ghost_name

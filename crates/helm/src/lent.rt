@@ -93,7 +93,7 @@ impl Numbers {
 }
 
 /// The 17 numbers that tell these.
-pub(crate) fn laid_out(x: Numbers) -> [u64; 17]
+fn laid_out(x: Numbers) -> [u64; 17]
     ensures { numbers_in result ≡ x }
 {
     [
@@ -254,6 +254,8 @@ impl Session for Lent<'_> {}
 
 impl Lent<'_> {
     /// A message of the gateway at a time, as `message` of `Session`. What stands behind each reference afterwards is what its lender finds.
+    /// A call of its own: within its caller it would have the parts cleared once more.
+    #[inline(never)]
     pub fn hear(&mut self, time: u64, payload: &[u8], out: &mut [u8]) -> Result<usize, Refusal>
         ensures left { told result (lent_plain self.new) out.new ≡ called helm_limits (lent_plain self.old) (model.message time payload.now (length out.old)) out.old }
         ensures same { SameLoans self.new self.old }

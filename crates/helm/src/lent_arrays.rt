@@ -1,4 +1,4 @@
-// The machine of a session whose numbers and lists are lent one by one, without the parts of Format 2.
+// The machine of a session whose lists are lent one by one, with its numbers in hand and without the parts of Format 2.
 ghost use Rattle.std.proofs.Common.{rules};
 ghost use Rattle.std.specs.Prelude.{◌≡◌, ◌≤◌, ◌↔◌, IsNone, IfSome, OnErr, OnOk, length, drop};
 ghost use Rattle.field.specs.Pick.{pick};
@@ -10,21 +10,20 @@ ghost use Rattle.helm.specs.Steps.{minded};
 ghost use Rattle.helm.specs.Hands.{hand_in, hand_after_message};
 ghost use Rattle.helm.specs.Arrays.{storing, first, owed_by};
 ghost use Rattle.helm.specs.Calls.{told, called};
-ghost use Rattle.helm.specs.Machines.{SameLoans, helm_limits, lent_plain, lent_arrays_stored, partless};
+ghost use Rattle.helm.specs.Machines.{SameArrays, helm_limits, arrays_plain, arrays_stored};
 
 use crate::entry;
-use crate::lent::laid_out;
 use crate::memory::Arrays;
 use crate::stored::{Numbers, Which};
 use crate::words::Refusal;
 use bounds::Limits;
 
-/// A session as in `Lent`, but with no place for the parts of Format 2.
-// kept: a machine of its own, with the stores of `Lent`: to lend all of these again takes references of references, for which no rule tells
-// the lender what he finds, and an option of parts is cleared whole at each call, 4.6 KB, used or not.
+/// A session as in `Lent`, but with its numbers in hand, as `Numbers::from_lent` reads them, and with no place for the parts of Format 2.
+// kept: a machine of its own, with stores like those of `Lent`: one that borrowed the other's arrays would hold references of references, for
+// which no rule tells the lender what he finds; and an option of parts is cleared whole at each call, 4.6 KB, used or not.
 #[derive(Drop)]
 pub struct LentArrays<'a> {
-    pub numbers: &'a mut [u64; 17],
+    pub numbers: Numbers,
     pub wanted: &'a mut [u32; 64],
     pub owed: &'a mut [u32; 64],
     pub fresh: &'a mut [u32; 64],
@@ -38,7 +37,7 @@ pub struct LentArrays<'a> {
 impl Arrays for LentArrays<'_> {
     ghost limits = { helm_limits };
 
-    ghost stored = { lent_arrays_stored };
+    ghost stored = { arrays_stored };
 
     fn limits() -> Limits
         ensures { result ≡ helm_limits }
@@ -52,19 +51,19 @@ impl Arrays for LentArrays<'_> {
     }
 
     fn numbers(&self) -> Numbers
-        ensures { result ≡ (lent_arrays_stored self.now).numbers }
+        ensures { result ≡ (arrays_stored self.now).numbers }
     {
-        Numbers::from_lent(self.numbers)
+        self.numbers
     }
 
     fn set_numbers(&mut self, numbers: Numbers)
-        ensures { lent_arrays_stored self.new ≡ with_numbers (lent_arrays_stored self.old) numbers }
+        ensures { arrays_stored self.new ≡ with_numbers (arrays_stored self.old) numbers }
     {
-        *self.numbers = laid_out(numbers);
+        self.numbers = numbers;
     }
 
     fn array(&self, which: Which) -> &[u32]
-        ensures array { result.now ≡ array_of which (lent_arrays_stored self.now) }
+        ensures array { result.now ≡ array_of which (arrays_stored self.now) }
         ensures len { length result.now ≡ capacity_of helm_limits which }
     {
         match which {
@@ -80,7 +79,7 @@ impl Arrays for LentArrays<'_> {
     }
 
     fn store(&mut self, which: Which, at: usize, pgns: &[u32])
-        ensures { lent_arrays_stored self.new ≡ storing (lent_arrays_stored self.old) which at pgns.now }
+        ensures { arrays_stored self.new ≡ storing (arrays_stored self.old) which at pgns.now }
     {
         let count = pgns.len();
         match which {
@@ -96,13 +95,13 @@ impl Arrays for LentArrays<'_> {
     }
 
     fn add_pgns(&mut self, at: usize, message: &[u8], count: usize)
-        ensures { lent_arrays_stored self.new ≡ storing (lent_arrays_stored self.old) Which.List at (pgns_at message.now 13 count) }
+        ensures { arrays_stored self.new ≡ storing (arrays_stored self.old) Which.List at (pgns_at message.now 13 count) }
     {
         pgns::add_pgns(self.list, at, message, 13, count);
     }
 
     fn know_list(&mut self, count: usize)
-        ensures { lent_arrays_stored self.new ≡ storing (lent_arrays_stored self.old) Which.Known 0 (first Which.List count (lent_arrays_stored self.old)) }
+        ensures { arrays_stored self.new ≡ storing (arrays_stored self.old) Which.Known 0 (first Which.List count (arrays_stored self.old)) }
     {
         let known = &mut *self.known;
         let list = &mut *self.list;
@@ -110,8 +109,8 @@ impl Arrays for LentArrays<'_> {
     }
 
     fn note_present(&mut self, count: usize, present: usize) -> usize
-        ensures value { result ≡ (noted (lent_arrays_stored self.old).known count (lent_arrays_stored self.old).present present).n }
-        ensures known { lent_arrays_stored self.new ≡ with_array (lent_arrays_stored self.old) Which.Known (noted (lent_arrays_stored self.old).known count (lent_arrays_stored self.old).present present).items }
+        ensures value { result ≡ (noted (arrays_stored self.old).known count (arrays_stored self.old).present present).n }
+        ensures known { arrays_stored self.new ≡ with_array (arrays_stored self.old) Which.Known (noted (arrays_stored self.old).known count (arrays_stored self.old).present present).items }
     {
         let known = &mut *self.known;
         let there = &mut *self.present;
@@ -119,8 +118,8 @@ impl Arrays for LentArrays<'_> {
     }
 
     fn owe(&mut self, wanted: usize, list: usize, present: usize, refused: usize) -> usize
-        ensures value { result ≡ (owed_in (lent_arrays_stored self.old).owed wanted (owed_by wanted list present refused (lent_arrays_stored self.old))).n }
-        ensures owed { lent_arrays_stored self.new ≡ with_array (lent_arrays_stored self.old) Which.Owed (owed_in (lent_arrays_stored self.old).owed wanted (owed_by wanted list present refused (lent_arrays_stored self.old))).items }
+        ensures value { result ≡ (owed_in (arrays_stored self.old).owed wanted (owed_by wanted list present refused (arrays_stored self.old))).n }
+        ensures owed { arrays_stored self.new ≡ with_array (arrays_stored self.old) Which.Owed (owed_in (arrays_stored self.old).owed wanted (owed_by wanted list present refused (arrays_stored self.old))).items }
     {
         let owed = &mut *self.owed;
         let asked = &mut *self.wanted;
@@ -133,13 +132,13 @@ impl Arrays for LentArrays<'_> {
     }
 
     fn shift_owed(&mut self, count: usize)
-        ensures { lent_arrays_stored self.new ≡ storing (lent_arrays_stored self.old) Which.Owed 0 (drop 1 (first Which.Owed count (lent_arrays_stored self.old))) }
+        ensures { arrays_stored self.new ≡ storing (arrays_stored self.old) Which.Owed 0 (drop 1 (first Which.Owed count (arrays_stored self.old))) }
     {
         pgns::shift(self.owed, count);
     }
 
     fn save_fresh(&mut self, at: usize, count: usize)
-        ensures { lent_arrays_stored self.new ≡ storing (lent_arrays_stored self.old) Which.Saved at (first Which.Fresh count (lent_arrays_stored self.old)) }
+        ensures { arrays_stored self.new ≡ storing (arrays_stored self.old) Which.Saved at (first Which.Fresh count (arrays_stored self.old)) }
     {
         let saved = &mut *self.saved;
         let fresh = &mut *self.fresh;
@@ -158,16 +157,16 @@ impl LentArrays<'_> {
         payload: &[u8],
         out: &mut [u8],
     ) -> Option<Result<usize, Refusal>>
-        ensures none { IsNone result ↔ ((lent_plain (partless self.old)).numbers.phase ≡ 3) }
+        ensures none { IsNone result ↔ (self.old.numbers.phase ≡ 3) }
         ensures kept { IsNone result → (self.new ≡ self.old) × (out.new ≡ out.old) }
-        ensures left { IfSome result (λ r. told r (lent_plain (partless self.new)) out.new ≡ called helm_limits (lent_plain (partless self.old)) (model.message time payload.now (length out.old)) out.old) }
-        ensures same { SameLoans (partless self.new) (partless self.old) }
-        ensures phase { IfSome result (λ r. OnOk r ((lent_plain (partless self.new)).numbers.phase ≤ 7)) }
-        ensures form { IfSome result (λ r. OnOk r ((lent_plain (partless self.new)).numbers ≡ pick (minded (lent_plain (partless self.old)).numbers payload.now) (plain (lent_plain (partless self.new)).numbers) (lent_plain (partless self.old)).numbers)) }
-        ensures hand { IfSome result (λ r. OnOk r (hand_in (lent_plain (partless self.new)).numbers (lent_plain (partless self.new)) ≡ hand_after_message (lent_plain (partless self.old)).numbers (lent_plain (partless self.old)) payload.now)) }
+        ensures left { IfSome result (λ r. told r (arrays_plain self.new) out.new ≡ called helm_limits (arrays_plain self.old) (model.message time payload.now (length out.old)) out.old) }
+        ensures same { SameArrays self.new self.old }
+        ensures phase { IfSome result (λ r. OnOk r ((arrays_plain self.new).numbers.phase ≤ 7)) }
+        ensures form { IfSome result (λ r. OnOk r ((arrays_plain self.new).numbers ≡ pick (minded (arrays_plain self.old).numbers payload.now) (plain (arrays_plain self.new).numbers) (arrays_plain self.old).numbers)) }
+        ensures hand { IfSome result (λ r. OnOk r (hand_in (arrays_plain self.new).numbers (arrays_plain self.new) ≡ hand_after_message (arrays_plain self.old).numbers (arrays_plain self.old) payload.now)) }
         ensures err { IfSome result (λ r. OnErr r (self.new ≡ self.old)) }
     {
-        if self.numbers().phase == 3 {
+        if self.numbers.phase == 3 {
             return None;
         }
         Some(entry::message_outside(self, time, payload, out))

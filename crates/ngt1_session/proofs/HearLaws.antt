@@ -1,5 +1,5 @@
 -- Laws of `ngt1_session_message` and `ngt1_session_part`: a message over blank memory in the place of what is not lent. Assumes nothing.
-use Rattle.std.specs.Prelude.{ℕ, zero, suc, ◌%◌, ◌≤◌, ◌≡◌, refl, Bool, true, false, List, [], length, eqb, get_or, replicate, Result, Ok, Err, OnErr}
+use Rattle.std.specs.Prelude.{ℕ, zero, suc, ◌%◌, ◌≤◌, ◌≡◌, refl, Bool, true, false, List, [], length, get_or, replicate, Result, Ok, Err, OnErr}
 use Rattle.std.proofs.Common.{arith, sym, ap, ◌∙◌, le-ltb}
 use Rattle.std.proofs.Math.Path.{subst}
 use Rattle.lists.specs.declared.F2List.{F2List}
@@ -13,7 +13,6 @@ use Rattle.session.specs.LentLaws.{chosen, other}
 use Rattle.session.proofs.FrameLaws.{with_blank, parted, beside, told_anyway, fits_any, over, told_beside, keeps, hands_kept, hands_back, held_back}
 use Rattle.helm.specs.declared.stored.Numbers.{Numbers as HelmNumbers}
 use Rattle.helm.specs.declared.words.Refusal.{Refusal}
-use Rattle.helm.specs.declared.words.Refusal.TheVariants.{NotWellFormed, TimeOverLimit, MessageTooLong, NoRoom, ListFull, TooManyWanted, RecordTooLong}
 use Rattle.helm.specs.Words.{refusal_number}
 use Rattle.helm.specs.Calls as helm
 use Rattle.helm.specs.Machines.{helm_limits, lent_plain}
@@ -24,7 +23,7 @@ use Rattle.helm.specs.Stored.{Stored}
 use Rattle.helm.proofs.LinkLaws.{set_half, message_lent}
 use Rattle.ngt1_session.specs.declared.Answer.{Answer}
 use Rattle.ngt1_session.specs.declared.PartAnswer.{PartAnswer}
-use Rattle.ngt1_session.specs.Session.{numbers_in, numbers_as, leaves, answer_by, told_on, told_part_on, answers, hears, hears_part}
+use Rattle.ngt1_session.specs.Session.{numbers_in, told_on, told_part_on, answers, hears, hears_part}
 
 -- the phase that the numbers tell
 reads_law : (p a : ℕ) → p ≤ 7 → (p ≡ 3 → ⊥) → reads_f2 (state_of p a) ≡ false
@@ -72,42 +71,19 @@ module _ (n : List ℕ) where
     pub hears_part_called : get_or n 0 0 ≡ 3 → taken ≡ hears_part n a t m out
     hears_part_called e = chosen _ _ (reads_yes e) ∙ by_phase (omega arith) _
 
--- what a lent session leaves behind its references
-abbrev pub after : Lent → Arrays
-after a = arrays_in (lent_plain a)
-
--- which is what their lenders find
-module _ (a : Lent) (n : List ℕ) {out : List ℕ} {e : Told} where
-  pub ends_told : {n' w o u l k s p q : List ℕ} {r : Answer} (f : F2List)
-      → n' ≡ n → w ≡ a.wanted.now → o ≡ a.owed.now → u ≡ a.fresh.now → l ≡ a.list.now → k ≡ a.known.now → s ≡ a.saved.now → p ≡ a.present.now → q ≡ a.refused.now
-      → told_on r n (parted (after a) f) out ≡ e
-      → told_on r n' (lent w o u l k s p q f) out ≡ e
-  ends_told {r = r} f z b c d g h i j v x = (λ y. told_on r (z y) (lent (b y) (c y) (d y) (g y) (h y) (i y) (j y) (v y) f) out) ∙ x
+-- what stands behind the references of a lent session after it is what their lenders find
+module _ (a : Stored) (n : List ℕ) {out : List ℕ} {e : Told} where
+  pub ends_told : {w o u l k s p q : List ℕ} {r : Answer} (f : F2List)
+      → w ≡ a.wanted → o ≡ a.owed → u ≡ a.fresh → l ≡ a.list → k ≡ a.known → s ≡ a.saved → p ≡ a.present → q ≡ a.refused
+      → told_on r n (parted (arrays_in a) f) out ≡ e
+      → told_on r n (lent w o u l k s p q f) out ≡ e
+  ends_told {r = r} f b c d g h i j v x = (λ y. told_on r n (lent (b y) (c y) (d y) (g y) (h y) (i y) (j y) (v y) f) out) ∙ x
 
   pub ends_parted : {w o k p q : List ℕ} (r : PartAnswer) (u l v : List ℕ)
-      → w ≡ a.wanted.now → o ≡ a.owed.now → k ≡ a.known.now → p ≡ a.present.now → q ≡ a.refused.now
-      → told_part_on r n (beside (after a) u l v) out ≡ e
+      → w ≡ a.wanted → o ≡ a.owed → k ≡ a.known → p ≡ a.present → q ≡ a.refused
+      → told_part_on r n (beside (arrays_in a) u l v) out ≡ e
       → told_part_on r n (lent w o u l k v p q) out ≡ e
   ends_parted r u l v b c d g h x = (λ y. told_part_on r n (lent (b y) (c y) u l (d y) v (g y) (h y)) out) ∙ x
-
--- a refusal is no 0, and the numbers stay
-counts : (r : Refusal) → eqb (refusal_number r) 0 ≡ false
-counts NotWellFormed = refl
-counts TimeOverLimit = refl
-counts MessageTooLong = refl
-counts NoRoom = refl
-counts ListFull = refl
-counts TooManyWanted = refl
-counts RecordTooLong = refl
-
-stays : (n n' : List ℕ) (x : Answer) (r : Refusal) → x ≡ answer_by (Err r) → n ≡ leaves x.number n n'
-stays n n' x r e = other (numbers_as (numbers_in n')) n (ap (λ (y : Answer). eqb y.number 0) e ∙ counts r)
-
-pub stay_left : {n n' : List ℕ} {x : Answer} (r : Refusal) → x ≡ answer_by (Err r) → n' ≡ n → n' ≡ leaves x.number n n'
-stay_left {n} {n'} {x} r e h = h ∙ stays n n' x r e
-
-pub left_same : {n n' : List ℕ} {x : Answer} (r : Refusal) → x ≡ answer_by (Err r) → n' ≡ leaves x.number n n' → n' ≡ n
-left_same {n} {n'} {x} r e h = h ∙ sym (stays n n' x r e)
 
 -- what is known of a refusal
 pub at_err : {P : Type 0} {x : Result ℕ Refusal} {r : Refusal} → x ≡ Err r → OnErr x P → P
@@ -117,11 +93,11 @@ is_ok : Result ℕ Refusal → Bool
 is_ok (Ok c) = true
 is_ok (Err e) = false
 
--- a message over arrays b, by the lent session that a tells after it
-module _ (n : List ℕ) (b : Arrays) (t : ℕ) (m out : List ℕ) (a : Lent) (out' : List ℕ) where
+-- a message over arrays b, by what stands in a lent session after it
+module _ (n : List ℕ) (b : Arrays) (t : ℕ) (m out : List ℕ) (a : Stored) (out' : List ℕ) where
   -- the numbers after it
   abbrev z : HelmNumbers
-  z = (lent_plain a).numbers
+  z = a.numbers
 
   -- the lent session before it
   abbrev lent_before : Stored
@@ -129,7 +105,7 @@ module _ (n : List ℕ) (b : Arrays) (t : ℕ) (m out : List ℕ) (a : Lent) (ou
 
   -- what it answers and leaves
   abbrev Heard : Result ℕ Refusal → Type 0
-  Heard r = helm.told r (lent_plain a) out' ≡ helm.called helm_limits lent_before (message t m (length out)) out
+  Heard r = helm.told r (a) out' ≡ helm.called helm_limits lent_before (message t m (length out)) out
 
   abbrev call : Arrays → Told
   call c = called (sync_of (numbers_in n) c) (message t m (length out)) out
@@ -138,36 +114,36 @@ module _ (n : List ℕ) (b : Arrays) (t : ℕ) (m out : List ℕ) (a : Lent) (ou
     past : call b ≡ told_by (λ v. called v (message t m (length out)) out) out (stored_in (uncut n) b)
     past = other _ _ (le-ltb 7 (get_or n 0 0) h)
 
-    ran : {c : ℕ} → Heard (Ok c) → ◌≡◌ {A = Told} (record { number = 0; count = c; sync = sync_of (as_lent z) (after a); out = out' }) (call b)
+    ran : {c : ℕ} → Heard (Ok c) → ◌≡◌ {A = Told} (record { number = 0; count = c; sync = sync_of (as_lent z) (arrays_in a); out = out' }) (call b)
     unfolding is_ok
-    ran {c} e = message_lent n b fits t m out out' (Ok c) z (after a) e (λ k i. false_true (sym (ap is_ok i))) ∙ sym past
+    ran {c} e = message_lent n b fits t m out out' (Ok c) z (arrays_in a) e (λ k i. false_true (sym (ap is_ok i))) ∙ sym past
 
-    refused : (r : Refusal) → Heard (Err r) → lent_plain a ≡ lent_before
-        → ◌≡◌ {A = Told} (record { number = refusal_number r; count = 0; sync = sync_of (numbers_in n) (after a); out = out' }) (call b)
-    refused r e k = message_lent n b fits t m out out' (Err r) z (after a) e (λ _ i. (ap (λ (s : Stored). s.numbers) k, ap arrays_in k)) ∙ sym past
+    refused : (r : Refusal) → Heard (Err r) → a ≡ lent_before
+        → ◌≡◌ {A = Told} (record { number = refusal_number r; count = 0; sync = sync_of (numbers_in n) (arrays_in a); out = out' }) (call b)
+    refused r e k = message_lent n b fits t m out out' (Err r) z (arrays_in a) e (λ _ i. (ap (λ (s : Stored). s.numbers) k, ap arrays_in k)) ∙ sym past
 
     -- `ngt1_session_message`
     module _ (y : get_or n 0 0 ≡ 3 → ⊥) where
       -- it was taken, and these numbers are stored
       pub took : {c : ℕ} {x : Result ℕ Refusal} (n' : List ℕ) → x ≡ Ok c → Heard x → numbers_in n' ≡ with_blank (as_lent z) (is_set (get_or n 16 0))
           → (f : F2List) → Fits (parted b f)
-          → told_on (record { number = 0; count = c }) n' (parted (after a) f) out' ≡ hears n (parted b f) t m out
+          → told_on (record { number = 0; count = c }) n' (parted (arrays_in a) f) out' ≡ hears n (parted b f) t m out
       took {c} n' i e stored f g =
-          ap {B = Told} (λ (v : Numbers). record { number = 0; count = c; sync = sync_of v (parted (after a) f); out = out' }) stored
-          ∙ told_anyway (numbers_in n) b (as_lent z) (after a) t m (length out) out out' (reads_no n h y) (ran (subst Heard i e)) f g
+          ap {B = Told} (λ (v : Numbers). record { number = 0; count = c; sync = sync_of v (parted (arrays_in a) f); out = out' }) stored
+          ∙ told_anyway (numbers_in n) b (as_lent z) (arrays_in a) t m (length out) out out' (reads_no n h y) (ran (subst Heard i e)) f g
           ∙ hears_called n (parted b f) t m out h y
 
       -- it was refused
-      pub turned_down : {x : Result ℕ Refusal} (r : Refusal) → x ≡ Err r → Heard x → lent_plain a ≡ lent_before
+      pub turned_down : {x : Result ℕ Refusal} (r : Refusal) → x ≡ Err r → Heard x → a ≡ lent_before
           → (f : F2List) → Fits (parted b f)
-          → told_on (record { number = refusal_number r; count = 0 }) n (parted (after a) f) out' ≡ hears n (parted b f) t m out
+          → told_on (record { number = refusal_number r; count = 0 }) n (parted (arrays_in a) f) out' ≡ hears n (parted b f) t m out
       turned_down r i e k f g =
-          told_anyway (numbers_in n) b (numbers_in n) (after a) t m (length out) out out' (reads_no n h y) (refused r (subst Heard i e) k) f g
+          told_anyway (numbers_in n) b (numbers_in n) (arrays_in a) t m (length out) out out' (reads_no n h y) (refused r (subst Heard i e) k) f g
           ∙ hears_called n (parted b f) t m out h y
 
   -- it is for the other function
-  pub unheard : get_or n 0 0 ≡ 3 → lent_plain a ≡ lent_before → out' ≡ out
-      → (f : F2List) → told_on (record { number = 100; count = 0 }) n (parted (after a) f) out' ≡ hears n (parted b f) t m out
+  pub unheard : get_or n 0 0 ≡ 3 → a ≡ lent_before → out' ≡ out
+      → (f : F2List) → told_on (record { number = 100; count = 0 }) n (parted (arrays_in a) f) out' ≡ hears n (parted b f) t m out
   unheard h k o f = (λ i. told_on (record { number = 100; count = 0 }) n (parted (arrays_in (k i)) f) (o i)) ∙ hears_100 n (parted b f) t m out h
 
   -- `ngt1_session_part`
@@ -177,49 +153,49 @@ module _ (n : List ℕ) (b : Arrays) (t : ℕ) (m out : List ℕ) (a : Lent) (ou
 
     -- what it is to tell, and hand back
     abbrev Tells : PartAnswer → List ℕ → Type 0
-    Tells r n' = (fresh list saved : List ℕ) → Fits (beside b fresh list saved b.f2) → told_part_on r n' (beside (after a) fresh list saved) out' ≡ hears_part n (beside b fresh list saved b.f2) t m out
+    Tells r n' = (fresh list saved : List ℕ) → Fits (beside b fresh list saved b.f2) → told_part_on r n' (beside (arrays_in a) fresh list saved) out' ≡ hears_part n (beside b fresh list saved b.f2) t m out
 
     abbrev Hands : F2List → List ℕ → Type 0
     Hands f n' = hand (numbers_in n') f ≡ handed (numbers_in n) b.f2 m
 
     module _ {c : ℕ} (e : Heard (Ok c)) where
       told_all : (fresh list saved : List ℕ) → Fits (beside b fresh list saved b.f2)
-          → ◌≡◌ {A = Told} (record { number = 0; count = c; sync = sync_of (as_lent z) (beside (after a) fresh list saved (after a).f2); out = out' }) (hears_part n (beside b fresh list saved b.f2) t m out)
+          → ◌≡◌ {A = Told} (record { number = 0; count = c; sync = sync_of (as_lent z) (beside (arrays_in a) fresh list saved (arrays_in a).f2); out = out' }) (hears_part n (beside b fresh list saved b.f2) t m out)
       told_all fresh list saved g =
-          told_beside (numbers_in n) b fresh list saved (as_lent z) (after a) t m (length out) out out' (reads_yes n h) fits (ran low fits e) g
+          told_beside (numbers_in n) b fresh list saved (as_lent z) (arrays_in a) t m (length out) out out' (reads_yes n h) fits (ran low fits e) g
           ∙ hears_part_called n (beside b fresh list saved b.f2) t m out h
 
       module _ (n' : List ℕ) (f : F2List) where
         -- a part is kept, and these parts are in hand
-        module _ (i : numbers_in n' ≡ with_blank (as_lent z) false) (j : f ≡ parts_of (as_lent z).totals (after a).f2) where
+        module _ (i : numbers_in n' ≡ with_blank (as_lent z) false) (j : f ≡ parts_of (as_lent z).totals (arrays_in a).f2) where
           pub part_kept : Tells (record { number = 0; count = c; parts = f }) n'
           part_kept fresh list saved g =
-              ◌∙◌ {A = Told} (λ d. record { number = 0; count = c; sync = sync_of (i d) (beside (after a) fresh list saved (j d)); out = out' }) (told_all fresh list saved g)
+              ◌∙◌ {A = Told} (λ d. record { number = 0; count = c; sync = sync_of (i d) (beside (arrays_in a) fresh list saved (j d)); out = out' }) (told_all fresh list saved g)
 
           pub kept_hand : keeps (f2_of m) (as_lent z).state ≡ true → Hands f n'
           kept_hand y =
               (λ d. hand (i d) (j d))
-              ∙ hands_kept (numbers_in n) (as_lent z) b (after a) t m (length out) out out' c (reads_yes n h) fits (ran low fits e) y
+              ∙ hands_kept (numbers_in n) (as_lent z) b (arrays_in a) t m (length out) out out' c (reads_yes n h) fits (ran low fits e) y
 
       -- the parts go back
       module _ (n' : List ℕ) (i : numbers_in n' ≡ with_blank (as_lent z) (is_set (get_or n 16 0))) (y : keeps (f2_of m) (as_lent z).state ≡ false) where
         pub part_back : Tells (record { number = 0; count = c; parts = b.f2 }) n'
         part_back fresh list saved g =
-            let same = held_back (numbers_in n) (as_lent z) b (after a) t m (length out) out out' c (reads_yes n h) fits (ran low fits e) y in
-            ap {B = Told} (λ (v : Numbers). record { number = 0; count = c; sync = sync_of v (beside (after a) fresh list saved b.f2); out = out' }) i
+            let same = held_back (numbers_in n) (as_lent z) b (arrays_in a) t m (length out) out out' c (reads_yes n h) fits (ran low fits e) y in
+            ap {B = Told} (λ (v : Numbers). record { number = 0; count = c; sync = sync_of v (beside (arrays_in a) fresh list saved b.f2); out = out' }) i
             ∙ ap {B = Told} (λ (v : Sync). record { number = 0; count = c; sync = over v fresh list saved; out = out' }) same
             ∙ told_all fresh list saved g
 
         pub back_hand : Hands b.f2 n'
         back_hand =
             ap (λ (v : Numbers). hand v b.f2) i
-            ∙ hands_back (numbers_in n) (as_lent z) b (after a) t m (length out) out out' c (reads_yes n h) fits (ran low fits e) y
+            ∙ hands_back (numbers_in n) (as_lent z) b (arrays_in a) t m (length out) out out' c (reads_yes n h) fits (ran low fits e) y
 
     -- it was refused
-    pub part_refused : (r : Refusal) → Heard (Err r) → lent_plain a ≡ lent_before → Tells (record { number = refusal_number r; count = 0; parts = b.f2 }) n
+    pub part_refused : (r : Refusal) → Heard (Err r) → a ≡ lent_before → Tells (record { number = refusal_number r; count = 0; parts = b.f2 }) n
     part_refused r e k fresh list saved g =
-        ap {B = Told} (λ (f : F2List). record { number = refusal_number r; count = 0; sync = sync_of (numbers_in n) (beside (after a) fresh list saved f); out = out' }) (sym (ap (λ (s : Stored). s.parts) k))
-        ∙ told_beside (numbers_in n) b fresh list saved (numbers_in n) (after a) t m (length out) out out' (reads_yes n h) fits (refused low fits r e k) g
+        ap {B = Told} (λ (f : F2List). record { number = refusal_number r; count = 0; sync = sync_of (numbers_in n) (beside (arrays_in a) fresh list saved f); out = out' }) (sym (ap (λ (s : Stored). s.parts) k))
+        ∙ told_beside (numbers_in n) b fresh list saved (numbers_in n) (arrays_in a) t m (length out) out out' (reads_yes n h) fits (refused low fits r e k) g
         ∙ hears_part_called n (beside b fresh list saved b.f2) t m out h
 
 -- the numbers that are stored: those of the lent session after it, y, but for the flag of its numbers before it, x
