@@ -65,22 +65,24 @@ fn push_each(
 }
 
 impl Collector {
-    // A decoder in any state, over a blank buffer of so many bytes, or as many as it can have.
-    pub(crate) fn raw(phase: Phase, count: usize, len: usize) -> Self
-        ensures { length result ≡ min len 1100 }
-    {
-        Collector {
-            decoder: Decoder { phase, count },
-            bytes: [BLANK; MOST],
-            len: len.min(MOST),
-        }
-    }
-
     // A new decoder over a blank buffer.
     pub(crate) fn new() -> Self
         ensures { length result ≡ 1024 }
     {
-        Collector::raw(Phase::Idle, 0, MAX_COLLECT)
+        Collector {
+            decoder: Decoder::new(),
+            bytes: [BLANK; MOST],
+            len: MAX_COLLECT,
+        }
+    }
+
+    // A decoder in any state, over a blank buffer of so many bytes, or as many as it can have.
+    pub(crate) fn raw(&mut self, phase: Phase, count: usize, len: usize)
+        ensures { length self.new ≡ min len 1100 }
+    {
+        self.decoder = Decoder { phase, count };
+        self.bytes = [BLANK; MOST];
+        self.len = len.min(MOST);
     }
 
     // A decoder that holds bytes, at the front of a buffer of 1,024 bytes again.
@@ -112,7 +114,7 @@ impl Collector {
         out: &mut Transcript<'_>,
     ) -> Result<(), DecodeError> {
         match call {
-            Decode::Reset => *self = Collector::new(),
+            Decode::Reset => self.raw(Phase::Idle, 0, MAX_COLLECT),
             Decode::Push(bytes) => {
                 let lent = &mut self.bytes[..];
                 push_slices(&mut self.decoder, &mut lent[..self.len], bytes, out)?;
