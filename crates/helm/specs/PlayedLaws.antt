@@ -2,7 +2,7 @@
 -- from the session that it left, the whole is a run. A run starts from what begin leaves (session/specs/LentPlayed), or restart; and what is
 -- said of its end is what is_done and lacks answer (session/specs/StartUp). And every session can be held by a machine. The limits of `Helm`
 -- and of `Lent` are the same, so all of it stands for both. Assumes nothing.
-use Rattle.std.specs.Prelude.{ℕ, ◌<◌, ◌≤◌, ltb, ◌≡◌, refl, Bool, true, false, List, [], ◌∷◌, ◌++◌, length, take, get_or, Result, Ok, Err, Option, Some, None}
+use Rattle.std.specs.Prelude.{ℕ, ◌<◌, ◌≤◌, ltb, ◌≡◌, refl, Bool, true, false, List, [], ◌∷◌, ◌++◌, length, take, eqb, get_or, Result, Ok, Err, Option, Some, None}
 use Rattle.std.specs.Borrow.{GName}
 use Rattle.std.proofs.Common.{arith, sym, ap, ◌∙◌, le-ltb, le-leb, ne_eqb, ltb-true, ltb-false}
 use Rattle.field.specs.Pick.{pick}
@@ -26,17 +26,19 @@ use Rattle.session.specs.LentPlayed.{InLentMemory}
 use Rattle.session.specs.Played.{Played, Holds, held_by, message', tick', firmware'}
 use Rattle.session.specs.StartUp.{StartedUp}
 use Rattle.helm.specs.declared.words.Refusal.{Refusal}
+use Rattle.helm.specs.declared.words.Refusal.TheVariants.{NotWellFormed, TimeOverLimit, MessageTooLong, NoRoom, ListFull, TooManyWanted, RecordTooLong}
 use Rattle.helm.specs.declared.words.Lack.{Lack}
 use Rattle.helm.specs.declared.words.Lack.TheVariants.{FromWhole, FromPart}
 use Rattle.helm.specs.declared.machines.Helm.{Helm}
 use Rattle.helm.specs.declared.lent.Lent.{Lent}
 use Rattle.helm.specs.Words.{refusal_number}
+use Rattle.helm.specs.declared.calls.Ticked as ticks
 use Rattle.helm.specs.declared.stored.Numbers.{Numbers}
-use Rattle.helm.specs.Stored.{Stored, HasSizes, session_in, plain, rests_on, with_parts}
+use Rattle.helm.specs.Stored.{Stored, HasSizes, session_of, session_in, plain, rests_on, with_numbers, with_parts}
 use Rattle.helm.specs.Steps.{minded}
 use Rattle.helm.specs.Hands.{hand_in, hand_after_message}
 use Rattle.helm.specs.Calls as contracts
-use Rattle.helm.specs.Calls.{told, told_done, called, set_to, restarted, abandoned, Said, says, refuses, told_lacks}
+use Rattle.helm.specs.Calls.{told, told_done, told_numbers, told_ticked, called, set_to, restarted, abandoned, Said, says, refuses, told_lacks}
 use Rattle.helm.specs.Machines.{SameLoans, helm_limits, helm_stored, lent_stored, told_begun}
 use Rattle.helm.specs.Linked.{as_lent, arrays_in}
 use Rattle.bounds.specs.declared.Limits.{Limits}
@@ -123,6 +125,19 @@ abbrev pub told_said : Said → one_session.Said
 told_said (says x) = one_session.says x
 told_said (refuses e) = one_session.refused (refusal_number e)
 
+-- the numbers to store after a call over the numbers alone: in a refusal those that it was called with
+abbrev pub ticked_numbers : Result ticks.Ticked Refusal → Numbers → Numbers
+ticked_numbers (Ok t) n = t.numbers
+ticked_numbers (Err e) n = n
+
+abbrev pub ticked_count : Result ticks.Ticked Refusal → ℕ
+ticked_count (Ok t) = t.count
+ticked_count (Err e) = 0
+
+abbrev pub set_numbers : Result Numbers Refusal → Numbers → Numbers
+set_numbers (Ok m) n = m
+set_numbers (Err e) n = n
+
 -- where the phase is one of the eight, the contracts of a machine with a helm's limits are those of the session that it holds
 module _ (s : Stored) (h : s.numbers.phase ≤ 7) where
   pub called_held : (x : Call) (out : List ℕ) → called helm_limits s x out ≡ one_session.called (session_in s) x out
@@ -179,6 +194,41 @@ module _ (s : Stored) (h : s.numbers.phase ≤ 7) where
         → Played (session_in s) (firmware version ∷ calls) last bytes
     machine_firmware (Ok u) version e p = firmware' (told_done (Ok u) t) version (e ∙ set_to_held version) p
     machine_firmware {A} (Err x) version e p = firmware' (told_done {A = A} (Err x) t) version (e ∙ set_to_held version) p
+
+  -- the calls over the numbers alone, for callers whose arrays lie elsewhere: what is held after one is what its numbers hold in the same arrays
+  module _ {last : Sync} {calls : List Call} {bytes : List ℕ} where
+    pub numbers_tick : (r : Result ticks.Ticked Refusal) (time : ℕ) (out left : List ℕ)
+        → told_ticked r s left ≡ called helm_limits s (tick time (length out)) out
+        → Played (session_in (with_numbers s (ticked_numbers r s.numbers))) calls last bytes
+        → Played (session_in s) (tick time (length out) ∷ calls) last (take (ticked_count r) left ++ bytes)
+    numbers_tick (Ok x) time out left e p = machine_tick (with_numbers s x.numbers) (Ok x.count) time out left e p
+    numbers_tick (Err x) time out left e p = machine_tick s (Err x) time out left e p
+
+    pub numbers_firmware : (r : Result Numbers Refusal) (version : ℕ)
+        → told_numbers r s ≡ set_to helm_limits s version
+        → Played (session_in (with_numbers s (set_numbers r s.numbers))) calls last bytes
+        → Played (session_in s) (firmware version ∷ calls) last bytes
+    numbers_firmware (Ok n) version e p = machine_firmware (with_numbers s n) {A = Numbers} (Ok n) version e p
+    numbers_firmware (Err x) version e p = machine_firmware s {A = Numbers} (Err x) version e p
+
+-- a refusal's number loses nothing
+abbrev refusal_of : ℕ → Refusal
+refusal_of n =
+    pick (eqb n 16) NotWellFormed
+    (pick (eqb n 13) TimeOverLimit
+    (pick (eqb n 6) MessageTooLong (pick (eqb n 7) NoRoom (pick (eqb n 14) ListFull (pick (eqb n 11) TooManyWanted RecordTooLong)))))
+
+refusal_told : (e : Refusal) → refusal_of (refusal_number e) ≡ e
+refusal_told NotWellFormed = refl
+refusal_told TimeOverLimit = refl
+refusal_told MessageTooLong = refl
+refusal_told NoRoom = refl
+refusal_told ListFull = refl
+refusal_told TooManyWanted = refl
+refusal_told RecordTooLong = refl
+
+pub refusal_tells : (d e : Refusal) → refusal_number d ≡ refusal_number e → d ≡ e
+refusal_tells d e p = sym (refusal_told d) ∙ ap refusal_of p ∙ refusal_told e
 
 -- what `lacks` says loses nothing
 abbrev lack_back : Lacks → Option Lack
@@ -339,6 +389,15 @@ hand_fixed s t e p =
       parts = p i;
       blank = blank_told (as_lent s.numbers).totals (as_lent t.numbers).totals (λ f. ap (λ (h : Sync). h.f2) (e f)) i;
     }
+
+-- numbers in that form that hold the same session whatever parts are in memory are the same, `blank` too: so are those that hold the same in
+-- every memory
+pub helm_numbers_tell : (x y : Numbers) (s t : Stored) → x ≡ plain x → y ≡ plain y
+    → ((f : F2List) → session_of x (with_parts s f) ≡ session_of y (with_parts t f)) → x ≡ y
+helm_numbers_tell x y s t p q h =
+    let a : Stored = with_parts (with_numbers s x) no_parts in
+    let b : Stored = with_parts (with_numbers t y) no_parts in
+    p ∙ numbers_fixed a b (h no_parts) (hand_fixed a b h refl) ∙ sym q
 
 -- A CALL FIXES ALL OF MEMORY: two memories that it may leave of the same one are the same, numbers, arrays and parts
 
