@@ -18,7 +18,6 @@ use Rattle.helm.specs.Calls as helm
 use Rattle.helm.specs.Machines.{helm_limits, lent_plain}
 use Rattle.helm.specs.Machines as helm_machines
 use Rattle.helm.specs.Linked.{as_lent, arrays_in, stored_in, uncut, told_by}
-use Rattle.helm.specs.declared.lent.Lent.{Lent}
 use Rattle.helm.specs.Stored.{Stored}
 use Rattle.helm.proofs.LinkLaws.{set_half, message_lent}
 use Rattle.ngt1_session.specs.declared.Answer.{Answer}
