@@ -40,7 +40,7 @@ fn finish<M: Arrays>(memory: &mut M, step: Step, out: &mut [u8]) -> usize
 // kept: no plainer: a message and its time are what the caller hands over, and each is looked at by itself; the room of the output is asked
 // for by three functions, where a struct of the output would have a clause in each that its loan is the same.
 
-// kept: what a message does outside Format 2 stands over numbers and arrays alone, since on this target a place for the parts, whether an
+// kept: no plainer: what a message does outside Format 2 stands over numbers and arrays alone, since on this target a place for the parts, whether an
 // option, a field or a local, is 4.6 KB to be cleared by each call, used or not: an owner who lends no parts pays for none. Format 2 is added
 // above, over memory with parts.
 

@@ -19,7 +19,7 @@ use crate::words::Refusal;
 use bounds::Limits;
 
 /// A session as in `Lent`, but with its numbers in hand, as `Numbers::from_lent` reads them, and with no place for the parts of Format 2.
-// kept: a machine of its own, with stores like those of `Lent`: one that borrowed the other's arrays would hold references of references, for
+// kept: no plainer: a machine of its own, with stores like those of `Lent`: one that borrowed the other's arrays would hold references of references, for
 // which no rule tells the lender what he finds; and an option of parts is cleared whole at each call, 4.6 KB, used or not.
 #[derive(Drop)]
 pub struct LentArrays<'a> {

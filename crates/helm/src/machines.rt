@@ -87,7 +87,7 @@ impl Helm {
     }
 }
 
-// kept: no plainer: of the two machines one has its arrays and the other refers to them; each function is a line over crate `pgns` in both.
+// kept: no plainer: of the three machines one has its arrays and two refer to theirs; each function is a line over crate `pgns` in each.
 impl Arrays for Helm {
     ghost limits = { helm_limits };
 

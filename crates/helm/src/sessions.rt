@@ -16,7 +16,7 @@ use crate::words::{Lack, Refusal};
 /// The calls of a session. A refusal changes nothing; a call that is taken leaves a phase up to 7, and what it stores is `plain`: a tick that one
 /// look tells to do nothing, and a message that is of no interest, store nothing; commands go into a lent output of `OUTPUT_ROOM` bytes or more, end to end.
 /// No call but a message touches the parts of Format 2 in memory, and what it does is the same whatever stands there. So a call that is taken leaves
-/// nothing of memory open, nor what of it is not in hand (`renewed_fixes`, `tick_fixes`, `message_fixes`).
+/// nothing of memory open, parts that are not in hand included (`renewed_fixes`, `tick_fixes`, `message_fixes`).
 // kept: no plainer: what a call promises beside the session is a clause each: `form`, `loans`, `phase`, `parts` and `any_parts`, or `hand`, and `err` where it refuses; callers cite one
 // at a time, and as one record it would be taken apart again by each.
 pub trait Session: Memory {
